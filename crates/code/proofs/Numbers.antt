@@ -1,0 +1,89 @@
+-- The numbers of the small enums: each is below the count of cases, and the case at a case's number is that case.
+-- Assumes nothing.
+use mathlib.Core.Path.{_≡_, refl}
+use Prim.Native.Nat.{ℕ, _<_}
+use lib.Dec.{lit<}
+use Rattle.code.specs.Color.{colorAt, colorNumber}
+use Rattle.code.specs.Column.{columnAt, columnNumber}
+use Rattle.code.specs.Control.{commandAt, commandNumber, tabNumber}
+use Rattle.code.specs.Letter.{letterRowAt, letterRowNumber}
+use Rattle.code.specs.Preamble.{styleAt, styleOf}
+use Rattle.code.specs.Symbol.{symbolRowAt, symbolRowNumber}
+use Rattle.code.specs.declared.color.Color as color
+use Rattle.code.specs.declared.color.Color.the-variants.{White, Green, Blue, Cyan, Red, Yellow, Magenta}
+use Rattle.code.specs.declared.column.Column.{Column}
+use Rattle.code.specs.declared.column.Column.the-variants.{C0, C1, C2, C3, C4, C5, C6, C7, C8, C9, CA, CB, CC, CD, CE, CF}
+use Rattle.code.specs.declared.letter.LetterRow.{LetterRow}
+use Rattle.code.specs.declared.letter.LetterRow.the-variants.{Row2, Row3, Row4, Row5, Row6, Row7}
+use Rattle.code.specs.declared.preamble.PreambleType.{PreambleType}
+use Rattle.code.specs.declared.preamble.PreambleType.the-variants as style
+use Rattle.code.specs.declared.symbol.SymbolRow.{SymbolRow}
+use Rattle.code.specs.declared.symbol.SymbolRow.the-variants.{Special, Spanish, French, Portuguese, German}
+
+-- a number that is below n and leads back to its case
+abbrev pub Back : {A : Type 0} → (ℕ → A) → (A → ℕ) → ℕ → A → Type 0
+Back at number n a = (number a < n) × (at (number a) ≡ a)
+
+pub column-back : (c : Column) → Back columnAt columnNumber 16 c
+column-back C0 = (lit< tt, refl)
+column-back C1 = (lit< tt, refl)
+column-back C2 = (lit< tt, refl)
+column-back C3 = (lit< tt, refl)
+column-back C4 = (lit< tt, refl)
+column-back C5 = (lit< tt, refl)
+column-back C6 = (lit< tt, refl)
+column-back C7 = (lit< tt, refl)
+column-back C8 = (lit< tt, refl)
+column-back C9 = (lit< tt, refl)
+column-back CA = (lit< tt, refl)
+column-back CB = (lit< tt, refl)
+column-back CC = (lit< tt, refl)
+column-back CD = (lit< tt, refl)
+column-back CE = (lit< tt, refl)
+column-back CF = (lit< tt, refl)
+
+pub letter-row-back : (r : LetterRow) → Back letterRowAt letterRowNumber 6 r
+letter-row-back Row2 = (lit< tt, refl)
+letter-row-back Row3 = (lit< tt, refl)
+letter-row-back Row4 = (lit< tt, refl)
+letter-row-back Row5 = (lit< tt, refl)
+letter-row-back Row6 = (lit< tt, refl)
+letter-row-back Row7 = (lit< tt, refl)
+
+pub symbol-row-back : (r : SymbolRow) → Back symbolRowAt symbolRowNumber 5 r
+symbol-row-back Special = (lit< tt, refl)
+symbol-row-back Spanish = (lit< tt, refl)
+symbol-row-back French = (lit< tt, refl)
+symbol-row-back Portuguese = (lit< tt, refl)
+symbol-row-back German = (lit< tt, refl)
+
+pub color-back : (c : color.Color) → Back colorAt colorNumber 7 c
+color-back White = (lit< tt, refl)
+color-back Green = (lit< tt, refl)
+color-back Blue = (lit< tt, refl)
+color-back Cyan = (lit< tt, refl)
+color-back Red = (lit< tt, refl)
+color-back Yellow = (lit< tt, refl)
+color-back Magenta = (lit< tt, refl)
+
+-- a colour keeps its number among the styles
+color-style : (c : color.Color) → Back styleAt styleOf 16 (style.Color c)
+color-style White = (lit< tt, refl)
+color-style Green = (lit< tt, refl)
+color-style Blue = (lit< tt, refl)
+color-style Cyan = (lit< tt, refl)
+color-style Red = (lit< tt, refl)
+color-style Yellow = (lit< tt, refl)
+color-style Magenta = (lit< tt, refl)
+
+pub style-back : (t : PreambleType) → Back styleAt styleOf 16 t
+style-back (style.Color c) = color-style c
+style-back style.WhiteItalics = (lit< tt, refl)
+style-back style.Indent0 = (lit< tt, refl)
+style-back style.Indent4 = (lit< tt, refl)
+style-back style.Indent8 = (lit< tt, refl)
+style-back style.Indent12 = (lit< tt, refl)
+style-back style.Indent16 = (lit< tt, refl)
+style-back style.Indent20 = (lit< tt, refl)
+style-back style.Indent24 = (lit< tt, refl)
+style-back style.Indent28 = (lit< tt, refl)

@@ -1,0 +1,11 @@
+pub mod Outcome
+pub mod Position
+pub mod Parity
+pub mod Channel
+pub mod Color
+pub mod Column
+pub mod MidRow
+pub mod Preamble
+pub mod Letter
+pub mod Symbol
+pub mod Control

@@ -1,0 +1,14 @@
+-- The first place, counted from 0, at which a number stands in a list.
+use Prim.Native.Nat.{ℕ, zero, suc}
+use mathlib.Core.Bool.{cond}
+use mathlib.Core.List.{List, [], _∷_}
+use mathlib.Core.Option.{Option, none, some}
+use lib.Dec.{eqb}
+
+abbrev pub later : Option ℕ → Option ℕ
+later none = none
+later (some i) = some (suc i)
+
+abbrev pub position : ℕ → List ℕ → Option ℕ
+position x [] = none
+position x (y ∷ ys) = cond (eqb x y) (some zero) (later (position x ys))

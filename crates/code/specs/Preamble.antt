@@ -1,0 +1,114 @@
+-- Preamble address codes, from 47 CFR 79.101: fifteen rows, and sixteen styles with and without an underline. The rows
+-- are counted from 0 as 01 has them, and the refusals 3 and 8 are 01's.
+use Prim.Native.Nat.{ℕ, _+_, _*_, _-_}
+use mathlib.Core.Bool.{Bool, cond}
+use mathlib.Core.List.{List, [], _∷_}
+use mathlib.Core.Option.{Option, none, some}
+use lib.Dec.{eqb, leb, ltb}
+use lib.ListN.{getD}
+use Rattle.code.specs.Color.{colorAt, colorNumber}
+use Rattle.code.specs.Outcome.{Outcome, answer, refused}
+use Rattle.code.specs.Position.{position}
+use Rattle.code.specs.declared.color.Color.{Color}
+use Rattle.code.specs.declared.color.Color.the-variants.{White}
+use Rattle.code.specs.declared.preamble.FromIndent.{FromIndent}
+use Rattle.code.specs.declared.preamble.FromIndent.the-variants.{Made as Indented, NoSuchIndent}
+use Rattle.code.specs.declared.preamble.MaybeIndent.{MaybeIndent}
+use Rattle.code.specs.declared.preamble.MaybeIndent.the-variants.{Indent, Absent}
+use Rattle.code.specs.declared.preamble.NewPreamble.{NewPreamble}
+use Rattle.code.specs.declared.preamble.NewPreamble.the-variants.{Made, NoSuchRow}
+use Rattle.code.specs.declared.preamble.PreambleAddressCode.{PreambleAddressCode}
+use Rattle.code.specs.declared.preamble.PreambleType.{PreambleType}
+use Rattle.code.specs.declared.preamble.PreambleType.the-variants.{
+  Color as Colored,
+  WhiteItalics,
+  Indent0,
+  Indent4,
+  Indent8,
+  Indent12,
+  Indent16,
+  Indent20,
+  Indent24,
+  Indent28
+}
+
+-- the styles that are no colour
+abbrev pub plainStyles : List PreambleType
+plainStyles = WhiteItalics ∷ Indent0 ∷ Indent4 ∷ Indent8 ∷ Indent12 ∷ Indent16 ∷ Indent20 ∷ Indent24 ∷ Indent28 ∷ []
+
+abbrev pub plainStyleAt : ℕ → PreambleType
+plainStyleAt n = getD plainStyles n WhiteItalics
+
+-- the styles in the order of their codes: 0 to 6 the colours, 7 white italics, 8 to 15 the indents
+abbrev pub styleAt : ℕ → PreambleType
+styleAt n = cond (ltb n 7) (Colored (colorAt n)) (plainStyleAt (n - 7))
+
+abbrev pub styleOf : PreambleType → ℕ
+styleOf (Colored c) = colorNumber c
+styleOf WhiteItalics = 7
+styleOf Indent0 = 8
+styleOf Indent4 = 9
+styleOf Indent8 = 10
+styleOf Indent12 = 11
+styleOf Indent16 = 12
+styleOf Indent20 = 13
+styleOf Indent24 = 14
+styleOf Indent28 = 15
+
+-- the indents that there are
+abbrev pub indents : List ℕ
+indents = 0 ∷ 4 ∷ 8 ∷ 12 ∷ 16 ∷ 20 ∷ 24 ∷ 28 ∷ []
+
+-- the eight indents are styles 8 to 15; 8: another indent
+abbrev pub fromIndentPlace : Option ℕ → Outcome PreambleType
+fromIndentPlace none = refused 8
+fromIndentPlace (some i) = answer (styleAt (8 + i))
+
+abbrev pub fromIndent : ℕ → Outcome PreambleType
+fromIndent n = fromIndentPlace (position n indents)
+
+abbrev pub fromIndentOutcome : FromIndent → Outcome PreambleType
+fromIndentOutcome (Indented t) = answer t
+fromIndentOutcome NoSuchIndent = refused 8
+
+abbrev pub colorType : Color → PreambleType
+colorType c = Colored c
+
+-- white italics and all indents are white
+abbrev pub colorOfStyle : PreambleType → Color
+colorOfStyle t = cond (ltb (styleOf t) 7) (colorAt (styleOf t)) White
+
+-- styles 8 to 15 are indents, by four columns each
+abbrev pub indentIn : PreambleType → MaybeIndent
+indentIn t = cond (leb 8 (styleOf t)) (Indent (4 * (styleOf t - 8))) Absent
+
+-- 3: a row above 14
+abbrev pub newPreamble : ℕ → Bool → PreambleType → Outcome PreambleAddressCode
+newPreamble row u t = cond (leb row 14) (answer (record { row = row; underline = u; ty = t })) (refused 3)
+
+abbrev pub newPreambleOutcome : NewPreamble → Outcome PreambleAddressCode
+newPreambleOutcome (Made p) = answer p
+newPreambleOutcome NoSuchRow = refused 3
+
+abbrev pub rowIn : PreambleAddressCode → ℕ
+rowIn p = p .row
+
+-- a colour starts at the left
+abbrev pub columnOf : MaybeIndent → ℕ
+columnOf (Indent n) = n
+columnOf Absent = 0
+
+abbrev pub columnIn : PreambleAddressCode → ℕ
+columnIn p = columnOf (indentIn (p .ty))
+
+abbrev pub underlineIn : PreambleAddressCode → Bool
+underlineIn p = p .underline
+
+abbrev pub typeIn : PreambleAddressCode → PreambleType
+typeIn p = p .ty
+
+abbrev pub italicsIn : PreambleAddressCode → Bool
+italicsIn p = eqb (styleOf (p .ty)) 7
+
+abbrev pub colorInRow : PreambleAddressCode → Color
+colorInRow p = colorOfStyle (p .ty)

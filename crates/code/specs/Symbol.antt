@@ -1,0 +1,29 @@
+-- The places of the characters that are control codes: the special characters, from 47 CFR 79.101, and the four rows of
+-- extended characters, from 01.
+use Prim.Native.Nat.{ℕ, _+_, _*_, _/_, _%_}
+use mathlib.Core.List.{List, [], _∷_}
+use lib.ListN.{getD}
+use Rattle.code.specs.Column.{columnAt, columnNumber}
+use Rattle.code.specs.declared.symbol.Symbol.{Symbol}
+use Rattle.code.specs.declared.symbol.SymbolRow.{SymbolRow}
+use Rattle.code.specs.declared.symbol.SymbolRow.the-variants.{Special, Spanish, French, Portuguese, German}
+
+abbrev pub symbolRows : List SymbolRow
+symbolRows = Special ∷ Spanish ∷ French ∷ Portuguese ∷ German ∷ []
+
+abbrev pub symbolRowAt : ℕ → SymbolRow
+symbolRowAt n = getD symbolRows n Special
+
+abbrev pub symbolRowNumber : SymbolRow → ℕ
+symbolRowNumber Special = 0
+symbolRowNumber Spanish = 1
+symbolRowNumber French = 2
+symbolRowNumber Portuguese = 3
+symbolRowNumber German = 4
+
+-- the symbol at a place, and the place of a symbol, from 0 for the registered mark
+abbrev pub symbolAt : ℕ → Symbol
+symbolAt n = record { row = symbolRowAt (n / 16); column = columnAt (n % 16) }
+
+abbrev pub symbolPlace : Symbol → ℕ
+symbolPlace s = symbolRowNumber (s .row) * 16 + columnNumber (s .column)

@@ -1,0 +1,86 @@
+//! The oracle: what the crate cea608-types says to the queries of docs/REPLAY.md.
+//!
+//!     oracle sets                          the names of the sets
+//!     oracle make SET QUERIES ANSWERS      writes a set's queries and the crate's answers
+//!     oracle compare QUERIES ANSWERS GOT   compares what `replay` wrote with the crate's answers
+//!
+//! A layer above the code layer adds its queries in a module like `code`, their lengths to the list in
+//! `transcript`, and its sets to `SETS`.
+
+mod code;
+mod code_sets;
+mod names;
+mod panics;
+mod random;
+mod sample;
+mod transcript;
+mod values;
+
+use std::fs::{read, write};
+use std::process::exit;
+use transcript::Transcript;
+
+type Set = (&'static str, fn(&mut Transcript));
+
+const SETS: [Set; 6] = [
+    ("sample", sample::sample),
+    ("pairs", code_sets::pairs),
+    ("singles", code_sets::singles),
+    ("controls", code_sets::controls),
+    ("from_char", code_sets::from_char),
+    ("constructors", code_sets::constructors),
+];
+
+fn main() {
+    panics::silence_while_asking();
+    let words: Vec<String> = std::env::args().skip(1).collect();
+    let words: Vec<&str> = words.iter().map(String::as_str).collect();
+    let done = match words[..] {
+        ["sets"] => list_sets(),
+        ["make", set, queries, answers] => make(set, queries, answers),
+        ["compare", queries, answers, got] => compare(queries, answers, got),
+        _ => Err(
+            "usage: oracle sets | make SET QUERIES ANSWERS | compare QUERIES ANSWERS GOT".into(),
+        ),
+    };
+    if let Err(text) = done {
+        println!("{text}");
+        exit(1);
+    }
+}
+
+fn list_sets() -> Result<(), String> {
+    for (name, _) in SETS {
+        println!("{name}");
+    }
+    Ok(())
+}
+
+fn make(set: &str, queries: &str, answers: &str) -> Result<(), String> {
+    let (_, fill) = SETS
+        .iter()
+        .find(|(name, _)| *name == set)
+        .ok_or_else(|| format!("there is no set {set}"))?;
+    let mut transcript = Transcript::default();
+    fill(&mut transcript);
+    save(queries, &transcript.queries)?;
+    save(answers, &transcript.answers)
+}
+
+fn compare(queries: &str, answers: &str, got: &str) -> Result<(), String> {
+    let transcript = Transcript {
+        queries: load(queries)?,
+        answers: load(answers)?,
+    };
+    let count = transcript.compare(&load(got)?)?;
+    println!("{count} queries, no difference");
+    Ok(())
+}
+
+fn load(path: &str) -> Result<Vec<u8>, String> {
+    read(path).map_err(|error| format!("{path}: {error}"))
+}
+
+fn save(path: &str, bytes: &[u8]) -> Result<(), String> {
+    write(path, bytes).map_err(|error| format!("{path}: {error}"))
+}

@@ -1,0 +1,26 @@
+//! Numbers that look random and are the same in every run from the same seed.
+
+pub struct Random(u64);
+
+impl Random {
+    pub fn from_seed(seed: u64) -> Self {
+        Random(seed)
+    }
+
+    /// A number below `limit`. The generator is Knuth's linear one; its high bits are the good ones.
+    pub fn below(&mut self, limit: u32) -> u32 {
+        self.0 = self
+            .0
+            .wrapping_mul(6364136223846793005)
+            .wrapping_add(1442695040888963407);
+        ((self.0 >> 32) * u64::from(limit) >> 32) as u32
+    }
+
+    pub fn byte_below(&mut self, limit: u8) -> u8 {
+        self.below(limit.into()) as u8
+    }
+
+    pub fn pick<T: Copy>(&mut self, list: &[T]) -> T {
+        list[self.below(list.len() as u32) as usize]
+    }
+}

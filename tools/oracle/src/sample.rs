@@ -1,0 +1,232 @@
+//! The sample that is stored beside `replay`: the places where one case of the text ends and the next
+//! begins, each refusal, and some more of everything from a fixed seed.
+
+use crate::code::*;
+use crate::code_sets::{table_characters, CHANNELS, FIELDS, FIELDS_OR_NONE, FLAGS};
+use crate::names::{COLOURS, COMMANDS, LETTERS, MID_ROW_COLOURS, STYLES, SYMBOLS, TABS};
+use crate::random::Random;
+use crate::transcript::Transcript;
+use cea608_types::tables::{Channel, Code, Control, Field};
+
+const SEED: u64 = 608;
+
+pub fn sample(to: &mut Transcript) {
+    let mut random = Random::from_seed(SEED);
+    pairs_at_edges(to);
+    random_pairs(to, &mut random);
+    single_codes(to);
+    control_codes_at_edges(to);
+    random_codes(to, &mut random);
+    characters(to);
+    random_characters(to, &mut random);
+    constructors(to);
+}
+
+/// Adds parity to two stripped bytes and asks for the pair.
+fn read_stripped(to: &mut Transcript, [first, second]: [u8; 2]) {
+    read_pair(to, [with_parity(first), with_parity(second)]);
+}
+
+fn pairs_at_edges(to: &mut Transcript) {
+    // each first byte of a command, in both channels, with the first and last second byte of each case
+    for first in 0x10..=0x1F {
+        for second in [0x00, 0x1F, 0x20, 0x2F, 0x30, 0x3F, 0x40, 0x5F, 0x60, 0x7F] {
+            read_stripped(to, [first, second]);
+        }
+    }
+    for second in 0x20..=0x24 {
+        read_stripped(to, [0x17, second]);
+    }
+    const TRIED_BY_HAND: [[u8; 2]; 9] = [
+        [0x94, 0x2C],
+        [0x15, 0x2C],
+        [0x97, 0xA1],
+        [0x91, 0xAE],
+        [0x94, 0x25],
+        [0x94, 0x70],
+        [0xC8, 0xE9],
+        [0xA1, 0x80],
+        [0x80, 0x80],
+    ];
+    const NO_COMMAND: [[u8; 2]; 8] = [
+        [0x00, 0x41],
+        [0x41, 0x00],
+        [0x01, 0x0F],
+        [0x0F, 0x20],
+        [0x20, 0x10],
+        [0x20, 0x1F],
+        [0x27, 0x2A],
+        [0x5C, 0x7F],
+    ];
+    const EVEN_PARITY: [[u8; 2]; 6] = [
+        [0x48, 0xE9],
+        [0xC8, 0x69],
+        [0x48, 0x69],
+        [0x14, 0x25],
+        [0x00, 0x80],
+        [0xFF, 0xFF],
+    ];
+    for pair in TRIED_BY_HAND.into_iter().chain(EVEN_PARITY) {
+        read_pair(to, pair);
+    }
+    for stripped in NO_COMMAND {
+        read_stripped(to, stripped);
+    }
+}
+
+fn random_pairs(to: &mut Transcript, random: &mut Random) {
+    for _ in 0..60 {
+        let second = random.byte_below(0x80);
+        read_stripped(to, [0x10 + random.byte_below(0x10), second]);
+        let first = random.byte_below(0x80);
+        read_stripped(to, [first, second]);
+    }
+    for _ in 0..20 {
+        let [first, second, ..] = random.below(0x1_0000).to_le_bytes();
+        read_pair(to, [first, second]);
+    }
+}
+
+/// NUL, the letters that are not ASCII's or stand beside those, and `Unknown`s, one of which is 0x41
+/// and yet no A.
+fn single_codes(to: &mut Transcript) {
+    ask_of_code(to, Code::NUL);
+    for place in [0, 1, 7, 10, 33, 60, 62, 63, 64, 65, 91, 92, 93, 94, 95] {
+        ask_of_code(to, LETTERS[place]);
+    }
+    for byte in [0x00, 0x01, 0x0F, 0x10, 0x1F, 0x20, 0x41, 0x7F, 0x80, 0xFF] {
+        ask_of_code(to, Code::Unknown(byte));
+    }
+}
+
+fn control_codes_at_edges(to: &mut Transcript) {
+    // the first and last of each row; 9, 22, 25, 26, 62 and 71 are those whose character could be another
+    for place in [
+        0, 9, 15, 16, 22, 25, 26, 31, 32, 47, 48, 62, 63, 64, 71, 76, 77, 78, 79,
+    ] {
+        ask_of_code(to, control(None, Channel::ONE, SYMBOLS[place]));
+    }
+    for command in [COMMANDS[0], COMMANDS[12], COMMANDS[15]] {
+        for field in FIELDS_OR_NONE {
+            ask_of_code(to, control(field, Channel::TWO, command));
+        }
+    }
+    // 0x14 before 0x20 to 0x2F is the only pair that a field changes
+    const UNKNOWNS: [[u8; 2]; 14] = [
+        [0x10, 0x60],
+        [0x18, 0x60],
+        [0x14, 0x1F],
+        [0x14, 0x20],
+        [0x14, 0x2F],
+        [0x14, 0x30],
+        [0x15, 0x20],
+        [0x1C, 0x20],
+        [0x41, 0x42],
+        [0x00, 0x00],
+        [0x7F, 0x7F],
+        [0x80, 0x00],
+        [0x00, 0x80],
+        [0xFF, 0xFF],
+    ];
+    for bytes in UNKNOWNS {
+        for channel in CHANNELS {
+            ask_of_code(
+                to,
+                control(Some(Field::TWO), channel, Control::Unknown(bytes)),
+            );
+        }
+    }
+    for row in (0..=16).chain([0xFF]) {
+        let style = STYLES[usize::from(row) % STYLES.len()];
+        let code = preamble_code(row, style, row % 2 == 1);
+        ask_of_code(to, control(Some(Field::TWO), Channel::ONE, code));
+    }
+    for tab in TABS {
+        ask_of_code(to, control(None, Channel::TWO, tab));
+    }
+}
+
+fn random_codes(to: &mut Transcript, random: &mut Random) {
+    for _ in 0..40 {
+        let (field, channel) = (random.pick(&FIELDS_OR_NONE), random.pick(&CHANNELS));
+        let code = random_control(random);
+        ask_of_code(to, control(field, channel, code));
+    }
+}
+
+fn random_control(random: &mut Random) -> Control {
+    match random.below(5) {
+        0 => mid_row_code(random.byte_below(MID_ROW_COLOURS), random.pick(&FLAGS)),
+        1 => random.pick(&SYMBOLS),
+        2 => random.pick(&COMMANDS),
+        3 => preamble_code(
+            random.byte_below(15),
+            random.pick(&STYLES),
+            random.pick(&FLAGS),
+        ),
+        _ => Control::Unknown([random.byte_below(0x80), random.byte_below(0x80)]),
+    }
+}
+
+/// Characters that have a code beside those that look like them and have none, and numbers that are
+/// no character.
+fn characters(to: &mut Transcript) {
+    const LIKE: &str = "\0 \u{A0}!'`´‘’\"“”*-—_|¦│/\\^~{}Aaáú█■®Ⓡ©Ⓒ℠™♪┌⌜┐└┘ÿЖ€\u{FFFD}🎵";
+    const NO_CHARACTER: [u32; 5] = [0xD800, 0xDFFF, 0x11_0000, 0x8000_0041, 0xFFFF_FFFF];
+    for code_point in LIKE.chars().map(u32::from).chain(NO_CHARACTER) {
+        for channel in CHANNELS {
+            code_of_character(to, code_point, channel);
+        }
+    }
+}
+
+fn random_characters(to: &mut Transcript, random: &mut Random) {
+    let known: Vec<u32> = table_characters().collect();
+    for _ in 0..20 {
+        code_of_character(to, random.pick(&known), random.pick(&CHANNELS));
+        code_of_character(to, random.below(0x11_0000), random.pick(&CHANNELS));
+    }
+}
+
+fn constructors(to: &mut Transcript) {
+    for colour in COLOURS {
+        mid_row_of_colour(to, colour, colour == COLOURS[1]);
+        style_of_colour(to, colour);
+    }
+    for underline in FLAGS {
+        mid_row_of_italics(to, underline);
+    }
+    for indent in (0..=33).chain([0x80, 0xFF]) {
+        style_of_indent(to, indent);
+    }
+    for count in (0..=4).chain([0xFF]) {
+        tab_of_count(to, count);
+    }
+    for style in STYLES {
+        preamble(to, 14, true, style);
+    }
+    for row in (0..=16).chain([0x80, 0xFF]) {
+        preamble(to, row, false, STYLES[8]);
+    }
+    for code in [
+        mid_row_code(7, true),
+        SYMBOLS[79],
+        COMMANDS[5],
+        TABS[2],
+        preamble_code(14, STYLES[15], true),
+        preamble_code(15, STYLES[0], false),
+        Control::Unknown([0x18, 0x60]),
+    ] {
+        for field in FIELDS {
+            for channel in CHANNELS {
+                control_code(to, field, channel, code);
+            }
+        }
+    }
+    ids(to);
+    for byte in [
+        0x00, 0x01, 0x03, 0x07, 0x20, 0x41, 0x7F, 0x80, 0x81, 0x94, 0xC1, 0xFE, 0xFF,
+    ] {
+        parity(to, byte);
+    }
+}
