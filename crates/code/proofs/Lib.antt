@@ -1,3 +1,5 @@
 pub mod Agree
+pub mod First
+pub mod Increasing
 pub mod Keys
 pub mod Numbers

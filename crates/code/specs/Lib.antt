@@ -9,3 +9,4 @@ pub mod Preamble
 pub mod Letter
 pub mod Symbol
 pub mod Control
+pub mod Tables

@@ -11,6 +11,7 @@ pub mod pair;
 pub mod parity;
 pub mod preamble;
 pub mod symbol;
+pub mod tables;
 
 pub use channel::Channel;
 pub use channel::Field;

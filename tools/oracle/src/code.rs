@@ -1,5 +1,5 @@
-//! The queries of the code layer. Each function here adds one query, and its answer is what the crate
-//! says; only the refusal's number, which the crate does not have, is put to the crate's refusal.
+//! The queries of the code layer. Each function here adds one query, and its answer is what the
+//! crate says; only a refusal's number, which the crate does not have, is put to its refusal.
 
 use crate::names::mid_row;
 use crate::panics::ask;
@@ -203,11 +203,8 @@ pub fn ids(to: &mut Transcript) {
 pub fn parity(to: &mut Transcript, byte: u8) {
     let odd = Code::from_data([byte, PADDING]).is_ok();
     let stripped = byte & 0x7F;
-    to.add(
-        0x0F,
-        &[byte],
-        &[odd.into(), stripped, with_parity(stripped)],
-    );
+    let answer = [odd.into(), stripped, with_parity(stripped)];
+    to.add(0x0F, &[byte], &answer);
 }
 
 const PADDING: u8 = 0x80;

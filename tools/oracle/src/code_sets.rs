@@ -30,8 +30,8 @@ pub fn singles(to: &mut Transcript) {
     }
 }
 
-/// Every control code; of the `Unknown`s with a byte of 0x80 or more, which are all refused, those of
-/// one channel and no field.
+/// Every control code; of the `Unknown`s with a byte of 0x80 or more, which are all refused, those
+/// of one channel and no field.
 pub fn controls(to: &mut Transcript) {
     for field in FIELDS_OR_NONE {
         for channel in CHANNELS {
@@ -78,8 +78,8 @@ fn all_unknowns() -> impl Iterator<Item = [u8; 2]> {
     (0..=0xFFFF).map(u16::to_be_bytes)
 }
 
-/// Every code point, and such numbers above them as would be taken for a character of the tables by a
-/// look-up that drops high bits.
+/// Every code point, and such numbers above them as would be taken for a character of the tables by
+/// a look-up that drops high bits.
 pub fn from_char(to: &mut Transcript) {
     for channel in CHANNELS {
         for code_point in 0..=LAST_CODE_POINT {

@@ -4,8 +4,8 @@
 //!     oracle make SET QUERIES ANSWERS      writes a set's queries and the crate's answers
 //!     oracle compare QUERIES ANSWERS GOT   compares what `replay` wrote with the crate's answers
 //!
-//! A layer above the code layer adds its queries in a module like `code`, their lengths to the list in
-//! `transcript`, and its sets to `SETS`.
+//! A layer above the code layer adds its queries in a module like `code`, their lengths to the list
+//! in `transcript`, and its sets to `SETS`.
 
 mod code;
 mod code_sets;
@@ -19,6 +19,8 @@ mod values;
 use std::fs::{read, write};
 use std::process::exit;
 use transcript::Transcript;
+
+const USAGE: &str = "usage: oracle sets | make SET QUERIES ANSWERS | compare QUERIES ANSWERS GOT";
 
 type Set = (&'static str, fn(&mut Transcript));
 
@@ -39,9 +41,7 @@ fn main() {
         ["sets"] => list_sets(),
         ["make", set, queries, answers] => make(set, queries, answers),
         ["compare", queries, answers, got] => compare(queries, answers, got),
-        _ => Err(
-            "usage: oracle sets | make SET QUERIES ANSWERS | compare QUERIES ANSWERS GOT".into(),
-        ),
+        _ => Err(USAGE.into()),
     };
     if let Err(text) = done {
         println!("{text}");

@@ -7,13 +7,13 @@ impl Random {
         Random(seed)
     }
 
-    /// A number below `limit`. The generator is Knuth's linear one; its high bits are the good ones.
+    /// A number below `limit`, by Knuth's linear generator, whose high bits are the good ones.
     pub fn below(&mut self, limit: u32) -> u32 {
         self.0 = self
             .0
             .wrapping_mul(6364136223846793005)
             .wrapping_add(1442695040888963407);
-        ((self.0 >> 32) * u64::from(limit) >> 32) as u32
+        (((self.0 >> 32) * u64::from(limit)) >> 32) as u32
     }
 
     pub fn byte_below(&mut self, limit: u8) -> u8 {

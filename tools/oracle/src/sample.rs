@@ -1,5 +1,5 @@
-//! The sample that is stored beside `replay`: the places where one case of the text ends and the next
-//! begins, each refusal, and some more of everything from a fixed seed.
+//! The sample that is stored beside `replay`: the places where one case of the text ends and the
+//! next begins, each refusal, and some more of everything from a fixed seed.
 
 use crate::code::*;
 use crate::code_sets::{table_characters, CHANNELS, FIELDS, FIELDS_OR_NONE, FLAGS};
@@ -12,14 +12,24 @@ const SEED: u64 = 608;
 
 pub fn sample(to: &mut Transcript) {
     let mut random = Random::from_seed(SEED);
-    pairs_at_edges(to);
+    command_pairs(to);
+    other_pairs(to);
     random_pairs(to, &mut random);
     single_codes(to);
-    control_codes_at_edges(to);
-    random_codes(to, &mut random);
+    named_controls(to);
+    preambles(to);
+    unknowns(to);
+    random_controls(to, &mut random);
     characters(to);
-    random_characters(to, &mut random);
-    constructors(to);
+    no_characters(to, &mut random);
+    constructors_of_styles(to);
+    constructors_of_controls(to);
+    ids(to);
+    for byte in [
+        0x00, 0x01, 0x03, 0x07, 0x20, 0x41, 0x7F, 0x80, 0x81, 0x94, 0xC1, 0xFE, 0xFF,
+    ] {
+        parity(to, byte);
+    }
 }
 
 /// Adds parity to two stripped bytes and asks for the pair.
@@ -27,8 +37,8 @@ fn read_stripped(to: &mut Transcript, [first, second]: [u8; 2]) {
     read_pair(to, [with_parity(first), with_parity(second)]);
 }
 
-fn pairs_at_edges(to: &mut Transcript) {
-    // each first byte of a command, in both channels, with the first and last second byte of each case
+/// Each first byte of a command, in both channels, with the edges of each case of the second.
+fn command_pairs(to: &mut Transcript) {
     for first in 0x10..=0x1F {
         for second in [0x00, 0x1F, 0x20, 0x2F, 0x30, 0x3F, 0x40, 0x5F, 0x60, 0x7F] {
             read_stripped(to, [first, second]);
@@ -37,49 +47,54 @@ fn pairs_at_edges(to: &mut Transcript) {
     for second in 0x20..=0x24 {
         read_stripped(to, [0x17, second]);
     }
-    const TRIED_BY_HAND: [[u8; 2]; 9] = [
-        [0x94, 0x2C],
-        [0x15, 0x2C],
-        [0x97, 0xA1],
-        [0x91, 0xAE],
-        [0x94, 0x25],
-        [0x94, 0x70],
-        [0xC8, 0xE9],
-        [0xA1, 0x80],
-        [0x80, 0x80],
-    ];
-    const NO_COMMAND: [[u8; 2]; 8] = [
-        [0x00, 0x41],
-        [0x41, 0x00],
-        [0x01, 0x0F],
-        [0x0F, 0x20],
-        [0x20, 0x10],
-        [0x20, 0x1F],
-        [0x27, 0x2A],
-        [0x5C, 0x7F],
-    ];
-    const EVEN_PARITY: [[u8; 2]; 6] = [
-        [0x48, 0xE9],
-        [0xC8, 0x69],
-        [0x48, 0x69],
-        [0x14, 0x25],
-        [0x00, 0x80],
-        [0xFF, 0xFF],
-    ];
-    for pair in TRIED_BY_HAND.into_iter().chain(EVEN_PARITY) {
+}
+
+const TRIED_BY_HAND: [[u8; 2]; 9] = [
+    [0x94, 0x2C],
+    [0x15, 0x2C],
+    [0x97, 0xA1],
+    [0x91, 0xAE],
+    [0x94, 0x25],
+    [0x94, 0x70],
+    [0xC8, 0xE9],
+    [0xA1, 0x80],
+    [0x80, 0x80],
+];
+
+const OF_EVEN_PARITY: [[u8; 2]; 6] = [
+    [0x48, 0xE9],
+    [0xC8, 0x69],
+    [0x48, 0x69],
+    [0x14, 0x25],
+    [0x00, 0x80],
+    [0xFF, 0xFF],
+];
+
+const STRIPPED_AND_NO_COMMAND: [[u8; 2]; 8] = [
+    [0x00, 0x41],
+    [0x41, 0x00],
+    [0x01, 0x0F],
+    [0x0F, 0x20],
+    [0x20, 0x10],
+    [0x20, 0x1F],
+    [0x27, 0x2A],
+    [0x5C, 0x7F],
+];
+
+fn other_pairs(to: &mut Transcript) {
+    for pair in TRIED_BY_HAND.into_iter().chain(OF_EVEN_PARITY) {
         read_pair(to, pair);
     }
-    for stripped in NO_COMMAND {
+    for stripped in STRIPPED_AND_NO_COMMAND {
         read_stripped(to, stripped);
     }
 }
 
 fn random_pairs(to: &mut Transcript, random: &mut Random) {
     for _ in 0..60 {
-        let second = random.byte_below(0x80);
-        read_stripped(to, [0x10 + random.byte_below(0x10), second]);
-        let first = random.byte_below(0x80);
+        let (first, second) = (random.byte_below(0x80), random.byte_below(0x80));
         read_stripped(to, [first, second]);
+        read_stripped(to, [0x10 | first & 0x0F, second]);
     }
     for _ in 0..20 {
         let [first, second, ..] = random.below(0x1_0000).to_le_bytes();
@@ -87,8 +102,8 @@ fn random_pairs(to: &mut Transcript, random: &mut Random) {
     }
 }
 
-/// NUL, the letters that are not ASCII's or stand beside those, and `Unknown`s, one of which is 0x41
-/// and yet no A.
+/// NUL, the letters that are not ASCII's or stand beside those, and `Unknown`s, one of which is
+/// 0x41 and yet no A.
 fn single_codes(to: &mut Transcript) {
     ask_of_code(to, Code::NUL);
     for place in [0, 1, 7, 10, 33, 60, 62, 63, 64, 65, 91, 92, 93, 94, 95] {
@@ -99,8 +114,9 @@ fn single_codes(to: &mut Transcript) {
     }
 }
 
-fn control_codes_at_edges(to: &mut Transcript) {
-    // the first and last of each row; 9, 22, 25, 26, 62 and 71 are those whose character could be another
+/// The first and last symbol of each row and those that one could take for others, some commands
+/// with all that a field does to them, and the tabs.
+fn named_controls(to: &mut Transcript) {
     for place in [
         0, 9, 15, 16, 22, 25, 26, 31, 32, 47, 48, 62, 63, 64, 71, 76, 77, 78, 79,
     ] {
@@ -111,42 +127,49 @@ fn control_codes_at_edges(to: &mut Transcript) {
             ask_of_code(to, control(field, Channel::TWO, command));
         }
     }
-    // 0x14 before 0x20 to 0x2F is the only pair that a field changes
-    const UNKNOWNS: [[u8; 2]; 14] = [
-        [0x10, 0x60],
-        [0x18, 0x60],
-        [0x14, 0x1F],
-        [0x14, 0x20],
-        [0x14, 0x2F],
-        [0x14, 0x30],
-        [0x15, 0x20],
-        [0x1C, 0x20],
-        [0x41, 0x42],
-        [0x00, 0x00],
-        [0x7F, 0x7F],
-        [0x80, 0x00],
-        [0x00, 0x80],
-        [0xFF, 0xFF],
-    ];
-    for bytes in UNKNOWNS {
-        for channel in CHANNELS {
-            ask_of_code(
-                to,
-                control(Some(Field::TWO), channel, Control::Unknown(bytes)),
-            );
-        }
-    }
-    for row in (0..=16).chain([0xFF]) {
-        let style = STYLES[usize::from(row) % STYLES.len()];
-        let code = preamble_code(row, style, row % 2 == 1);
-        ask_of_code(to, control(Some(Field::TWO), Channel::ONE, code));
-    }
     for tab in TABS {
         ask_of_code(to, control(None, Channel::TWO, tab));
     }
 }
 
-fn random_codes(to: &mut Transcript, random: &mut Random) {
+/// Every row, the first that is refused and the last one; field two must not change row 13 or 14.
+fn preambles(to: &mut Transcript) {
+    for row in (0..=16).chain([0xFF]) {
+        let style = STYLES[usize::from(row) % STYLES.len()];
+        let code = preamble_code(row, style, row % 2 == 1);
+        ask_of_code(to, control(Some(Field::TWO), Channel::ONE, code));
+    }
+}
+
+/// `Unknown`s with bit 0x08 and without, on both sides of the one range that a field changes, which
+/// is 0x14 before 0x20 to 0x2F, and those that are refused.
+const UNKNOWNS: [[u8; 2]; 14] = [
+    [0x10, 0x60],
+    [0x18, 0x60],
+    [0x14, 0x1F],
+    [0x14, 0x20],
+    [0x14, 0x2F],
+    [0x14, 0x30],
+    [0x15, 0x20],
+    [0x1C, 0x20],
+    [0x41, 0x42],
+    [0x00, 0x00],
+    [0x7F, 0x7F],
+    [0x80, 0x00],
+    [0x00, 0x80],
+    [0xFF, 0xFF],
+];
+
+fn unknowns(to: &mut Transcript) {
+    for bytes in UNKNOWNS {
+        for channel in CHANNELS {
+            let code = control(Some(Field::TWO), channel, Control::Unknown(bytes));
+            ask_of_code(to, code);
+        }
+    }
+}
+
+fn random_controls(to: &mut Transcript, random: &mut Random) {
     for _ in 0..40 {
         let (field, channel) = (random.pick(&FIELDS_OR_NONE), random.pick(&CHANNELS));
         let code = random_control(random);
@@ -155,40 +178,45 @@ fn random_codes(to: &mut Transcript, random: &mut Random) {
 }
 
 fn random_control(random: &mut Random) -> Control {
+    let underline = random.pick(&FLAGS);
     match random.below(5) {
-        0 => mid_row_code(random.byte_below(MID_ROW_COLOURS), random.pick(&FLAGS)),
+        0 => mid_row_code(random.byte_below(MID_ROW_COLOURS), underline),
         1 => random.pick(&SYMBOLS),
         2 => random.pick(&COMMANDS),
-        3 => preamble_code(
-            random.byte_below(15),
-            random.pick(&STYLES),
-            random.pick(&FLAGS),
-        ),
+        3 => preamble_code(random.byte_below(15), random.pick(&STYLES), underline),
         _ => Control::Unknown([random.byte_below(0x80), random.byte_below(0x80)]),
     }
 }
 
-/// Characters that have a code beside those that look like them and have none, and numbers that are
-/// no character.
+/// Every character of the tables, from its code and back.
 fn characters(to: &mut Transcript) {
-    const LIKE: &str = "\0 \u{A0}!'`´‘’\"“”*-—_|¦│/\\^~{}Aaáú█■®Ⓡ©Ⓒ℠™♪┌⌜┐└┘ÿЖ€\u{FFFD}🎵";
-    const NO_CHARACTER: [u32; 5] = [0xD800, 0xDFFF, 0x11_0000, 0x8000_0041, 0xFFFF_FFFF];
-    for code_point in LIKE.chars().map(u32::from).chain(NO_CHARACTER) {
+    for letter in LETTERS {
+        character_of_code(to, letter);
+    }
+    for symbol in SYMBOLS {
+        character_of_code(to, control(None, Channel::ONE, symbol));
+    }
+    for (character, channel) in table_characters().zip(CHANNELS.into_iter().cycle()) {
+        code_of_character(to, character, channel);
+    }
+}
+
+/// What looks like a character of the tables, or would be one with its high bits dropped, and
+/// numbers that are no character at all.
+fn no_characters(to: &mut Transcript, random: &mut Random) {
+    const LIKE: &str = "\0\u{A0}`´¦■⌜ⓇⒸÿЖ€\u{FFFD}🎵\u{10041}";
+    const NUMBERS: [u32; 5] = [0xD800, 0xDFFF, 0x11_0000, 0x8000_0041, 0xFFFF_FFFF];
+    for code_point in LIKE.chars().map(u32::from).chain(NUMBERS) {
         for channel in CHANNELS {
             code_of_character(to, code_point, channel);
         }
     }
-}
-
-fn random_characters(to: &mut Transcript, random: &mut Random) {
-    let known: Vec<u32> = table_characters().collect();
     for _ in 0..20 {
-        code_of_character(to, random.pick(&known), random.pick(&CHANNELS));
         code_of_character(to, random.below(0x11_0000), random.pick(&CHANNELS));
     }
 }
 
-fn constructors(to: &mut Transcript) {
+fn constructors_of_styles(to: &mut Transcript) {
     for colour in COLOURS {
         mid_row_of_colour(to, colour, colour == COLOURS[1]);
         style_of_colour(to, colour);
@@ -199,16 +227,16 @@ fn constructors(to: &mut Transcript) {
     for indent in (0..=33).chain([0x80, 0xFF]) {
         style_of_indent(to, indent);
     }
-    for count in (0..=4).chain([0xFF]) {
-        tab_of_count(to, count);
-    }
     for style in STYLES {
         preamble(to, 14, true, style);
     }
     for row in (0..=16).chain([0x80, 0xFF]) {
         preamble(to, row, false, STYLES[8]);
     }
-    for code in [
+}
+
+fn constructors_of_controls(to: &mut Transcript) {
+    let one_of_each_kind = [
         mid_row_code(7, true),
         SYMBOLS[79],
         COMMANDS[5],
@@ -216,17 +244,15 @@ fn constructors(to: &mut Transcript) {
         preamble_code(14, STYLES[15], true),
         preamble_code(15, STYLES[0], false),
         Control::Unknown([0x18, 0x60]),
-    ] {
+    ];
+    for code in one_of_each_kind {
         for field in FIELDS {
             for channel in CHANNELS {
                 control_code(to, field, channel, code);
             }
         }
     }
-    ids(to);
-    for byte in [
-        0x00, 0x01, 0x03, 0x07, 0x20, 0x41, 0x7F, 0x80, 0x81, 0x94, 0xC1, 0xFE, 0xFF,
-    ] {
-        parity(to, byte);
+    for count in (0..=4).chain([0xFF]) {
+        tab_of_count(to, count);
     }
 }

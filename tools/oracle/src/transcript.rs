@@ -1,5 +1,5 @@
-//! Queries with their answers, as the two byte strings that `replay` reads and should write, and the
-//! comparison of what it did write.
+//! Queries with their answers, as the two byte strings that `replay` reads and should write, and
+//! the comparison of what it did write.
 
 use std::fmt::Write;
 
