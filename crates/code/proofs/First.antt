@@ -2,12 +2,17 @@
 -- Assumes nothing.
 use mathlib.Core.Path.{_≡_, refl, sym, ap}
 use mathlib.Core.List.{List, [], _∷_, map}
-use mathlib.Core.Option.{none, some}
+use mathlib.Core.Bool.{Bool, true, false, cond}
+use mathlib.Core.Option.{Option, none, some, Option·none-ne-some, Option·some-injective}
 use Prim.Native.Nat.{ℕ, zero, suc, _<_}
 use native.Mathlib.Nat.{le-of-suc-le-suc, not-suc-le-zero, zero-lt-suc, suc-le-suc-iff}
+use native.Mathlib.Omega.{arith}
 use borrow.Author.Tests.{eq-eqb, ne-eqb}
+use lib.Dec.{eqb}
 use lib.ListN.{length, getD}
 use Rattle.code.specs.Position.{position, later}
+use Rattle.code.specs.Tables.{foundAt}
+use Rattle.code.specs.declared.tables.Found.the-variants.{At, Nothing}
 
 -- entry i has x, and none before it has
 pub first-at : (f : ℕ → ℕ) (x : ℕ) (t : List ℕ) (i : ℕ) → i < length t → f (getD t i 0) ≡ x → ((k : ℕ) → k < i → f (getD t k 0) ≡ x → ⊥) → position x (map f t) ≡ some i
@@ -23,3 +28,25 @@ first-none f x [] nowhere = refl
 first-none f x (y ∷ ys) nowhere =
     rw (ne-eqb x (f y) (λ (p : x ≡ f y). nowhere 0 (zero-lt-suc (length ys)) (sym p)))
     (ap later (first-none f x ys (λ k less p. nowhere (suc k) (suc-le-suc-iff .1 less) p)))
+
+inside-later : (n i : ℕ) (o : Option ℕ) → ((j : ℕ) → o ≡ some j → j < n) → later o ≡ some i → i < suc n
+inside-later n i none inside e = absurd (Option·none-ne-some i e)
+inside-later n i (some j) inside e = rw (← Option·some-injective (suc j) i e) (suc-le-suc-iff .1 (inside j refl))
+
+inside-test : (t : Bool) (n i : ℕ) (o : Option ℕ) → ((j : ℕ) → o ≡ some j → j < n) → cond t (some 0) (later o) ≡ some i → i < suc n
+inside-test true n i o inside e = rw (← Option·some-injective 0 i e) (zero-lt-suc n)
+inside-test false n i o inside e = inside-later n i o inside e
+
+-- a place is within the list
+pub first-inside : (x : ℕ) (l : List ℕ) (i : ℕ) → position x l ≡ some i → i < length l
+first-inside x [] i e = absurd (Option·none-ne-some i e)
+first-inside x (y ∷ ys) i e = inside-test (eqb x y) (length ys) i (position x ys) (λ j p. first-inside x ys j p) e
+
+-- what a search reports tells the place
+pub found-some : (o : Option ℕ) (i : ℕ) → foundAt o ≡ At i → o ≡ some i
+found-some none i e = let z : _≡_ {A = ℕ} 0 1 = cc in absurd (omega arith)
+found-some (some j) i e = cc
+
+pub found-none : (o : Option ℕ) → foundAt o ≡ Nothing → o ≡ none
+found-none none e = refl
+found-none (some j) e = let z : _≡_ {A = ℕ} 0 1 = cc in absurd (omega arith)

@@ -2,4 +2,5 @@ pub mod Agree
 pub mod First
 pub mod Increasing
 pub mod Keys
+pub mod Meaning
 pub mod Numbers

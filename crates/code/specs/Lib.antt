@@ -10,3 +10,7 @@ pub mod Letter
 pub mod Symbol
 pub mod Control
 pub mod Tables
+pub mod Characters
+pub mod Read
+pub mod Write
+pub mod Code

@@ -1,8 +1,21 @@
--- How an entry of the code's tables is read, and what a search over one finds.
-use Prim.Native.Nat.{ℕ, _/_, _%_, _<_}
-use mathlib.Core.List.{List}
+-- The code's tables as the text has them: an entry is one number, its bytes above and its code point below. What a
+-- search over a table finds, and what stands at an entry.
+use Prim.Native.Nat.{ℕ, zero, suc, _+_, _*_, _-_, _/_, _%_, _<_}
+use mathlib.Core.Bool.{cond}
+use mathlib.Core.List.{List, [], _∷_, _++_}
 use mathlib.Core.Option.{Option, none, some}
-use lib.ListN.{length, getD}
+use lib.Dec.{eqb, ltb}
+use lib.ListN.{length, getD, replicate}
+use Rattle.code.specs.Characters.{standard, special, spanish, french, portuguese, german}
+use Rattle.code.specs.Control.{commandAt, tabAt}
+use Rattle.code.specs.Letter.{letterAt}
+use Rattle.code.specs.Symbol.{symbolAt}
+use Rattle.code.specs.declared.code.Code.{Code}
+use Rattle.code.specs.declared.code.Code.the-variants as code
+use Rattle.code.specs.declared.control.Control.{Control}
+use Rattle.code.specs.declared.control.Control.the-variants as control
+use Rattle.code.specs.declared.read.Meaning.{Meaning}
+use Rattle.code.specs.declared.read.Meaning.the-variants as meant
 use Rattle.code.specs.declared.tables.Found.{Found}
 use Rattle.code.specs.declared.tables.Found.the-variants.{At, Nothing}
 
@@ -14,6 +27,29 @@ bytesOf e = e / 65536
 abbrev pub pointOf : ℕ → ℕ
 pointOf e = e % 65536
 
+-- entries for these code points, the bytes rising by one from the first
+abbrev pub entries : ℕ → List ℕ → List ℕ
+entries bytes [] = []
+entries bytes (p ∷ ps) = (bytes * 65536 + p) ∷ entries (suc bytes) ps
+
+-- NUL, then 0x20 to 0x7F
+abbrev pub codeEntries : List ℕ
+codeEntries = 0 ∷ entries 0x20 standard
+
+-- the symbols, the commands 14 20 to 14 2F and the tabs 17 21 to 17 23
+abbrev pub controlEntries : List ℕ
+controlEntries =
+    entries 0x1130 special ++ entries 0x1220 spanish ++ entries 0x1230 french ++ entries 0x1320 portuguese
+    ++ entries 0x1330 german ++ entries 0x1420 (replicate 16 0) ++ entries 0x1721 (replicate 3 0)
+
+abbrev pub codeAt : ℕ → Code
+codeAt i = cond (eqb i 0) code.Nul (code.Letter (letterAt (i - 1)))
+
+abbrev pub controlAt : ℕ → Control
+controlAt i =
+    cond (ltb i 80) (control.Symbol (symbolAt i))
+    (cond (ltb i 96) (control.Command (commandAt (i - 80))) (control.Tab (tabAt (i - 96))))
+
 abbrev pub foundAt : Option ℕ → Found
 foundAt none = Nothing
 foundAt (some i) = At i
@@ -21,3 +57,11 @@ foundAt (some i) = At i
 -- each entry's bytes are above those of every entry before it
 abbrev pub Increasing : List ℕ → Type 0
 Increasing t = (i j : ℕ) → i < j → j < length t → bytesOf (getD t i 0) < bytesOf (getD t j 0)
+
+-- the row of 40 to 5F after each of the first bytes 10 to 17
+abbrev pub firstRowAt : ℕ → ℕ
+firstRowAt n = getD (10 ∷ 0 ∷ 2 ∷ 11 ∷ 13 ∷ 4 ∷ 6 ∷ 8 ∷ []) n 0
+
+abbrev pub meaningOf : Option Control → Meaning
+meaningOf none = meant.Nothing
+meaningOf (some c) = meant.Of c

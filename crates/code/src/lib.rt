@@ -2,6 +2,8 @@
 // codes, and reading and writing a pair. Everything above this crate knows pairs only by what is promised here.
 
 pub mod channel;
+pub mod character;
+pub mod code;
 pub mod color;
 pub mod column;
 pub mod control;
@@ -10,11 +12,16 @@ pub mod midrow;
 pub mod pair;
 pub mod parity;
 pub mod preamble;
+pub mod read;
 pub mod symbol;
 pub mod tables;
+pub mod write;
 
 pub use channel::Channel;
 pub use channel::Field;
+pub use character::Character;
+pub use character::FromChar;
+pub use code::Code;
 pub use color::Color;
 pub use column::Column;
 pub use control::CodeField;
@@ -34,5 +41,7 @@ pub use preamble::MaybeIndent;
 pub use preamble::NewPreamble;
 pub use preamble::PreambleAddressCode;
 pub use preamble::PreambleType;
+pub use read::FromData;
 pub use symbol::Symbol;
 pub use symbol::SymbolRow;
+pub use write::Written;

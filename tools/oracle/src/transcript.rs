@@ -55,6 +55,11 @@ impl Transcript {
             let (asked, answered) = lengths(kind).ok_or("a query of a kind that is not listed")?;
             let query = cut(&mut queries, asked);
             let expected = cut(&mut answers, answered);
+            if (query.len(), expected.len()) != (asked, answered) {
+                return Err(format!(
+                    "query {count} or the crate's answer to it is cut off"
+                ));
+            }
             let found = cut(&mut got, answered);
             if found != expected {
                 return Err(difference(count, query, expected, found));

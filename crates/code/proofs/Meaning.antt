@@ -1,0 +1,95 @@
+-- What two bytes of a control code say, as the code decides it: the preambles by their first bytes' rows, the rest by
+-- the control table. One computation over all of them shows that it is what the text says.
+-- Assumes nothing.
+use mathlib.Core.Bool.{Bool, true, false, cond, _&&_}
+use mathlib.Core.List.{map}
+use mathlib.Core.Option.{Option, none, some}
+use mathlib.Core.Path.{_≡_, refl}
+use Prim.Native.Nat.{ℕ, _+_, _*_, _-_, _/_, _%_, _≤_, _<_}
+use borrow.Author.Tests.{ltb-true}
+use lib.Dec.{eqb, leb, ltb, lit<, lit≤}
+use Rattle.code.proofs.Agree.{agree, agree-from, agree-grid}
+use Rattle.code.specs.MidRow.{midRowAt}
+use Rattle.code.specs.Position.{position}
+use Rattle.code.specs.Preamble.{styleAt}
+use Rattle.code.specs.Read.{channelOf, commandOf, fieldOf, isCommand, meaning, orUnknown, underlined, within, withoutChannel, withoutField, single}
+use Rattle.code.specs.Tables.{bytesOf, codeEntries, codeAt, controlEntries, controlAt, firstRowAt, meaningOf}
+use Rattle.code.specs.declared.channel.Channel.{Channel}
+use Rattle.code.specs.declared.code.Code.{Code}
+use Rattle.code.specs.declared.code.Code.the-variants as code
+use Rattle.code.specs.declared.control.CodeField.{CodeField}
+use Rattle.code.specs.declared.control.Control.{Control}
+use Rattle.code.specs.declared.control.Control.the-variants as control
+use Rattle.code.specs.declared.control.ControlCode.{ControlCode}
+use Rattle.code.specs.declared.read.Meaning.{Meaning}
+use Rattle.code.specs.declared.read.Meaning.the-variants as meant
+
+abbrev pub channelFrom : Bool → Channel
+channelFrom t = record { 0 = t }
+
+abbrev pub inRow : ℕ → ℕ → Option Control
+inRow b row = some (control.Preamble (record { row = row; underline = underlined b; ty = styleAt (b % 32 / 2) }))
+
+abbrev pub decidedRow : ℕ → ℕ → Option Control
+decidedRow p b = cond (ltb b 0x60) (inRow b (firstRowAt (p % 8))) (cond (eqb p 0x10) none (inRow b (firstRowAt (p % 8) + 1)))
+
+abbrev pub atEntry : Option ℕ → Option Control
+atEntry none = none
+atEntry (some i) = some (controlAt i)
+
+abbrev pub decided : ℕ → ℕ → Option Control
+decided p b =
+    cond (leb 0x40 b) (decidedRow p b)
+    (cond (eqb ((p * 256 + b) / 16) 0x112) (some (control.MidRow (midRowAt ((b - 0x20) / 2) (underlined b))))
+    (atEntry (position (p * 256 + b) (map bytesOf controlEntries))))
+
+pub decided-is : (p b : ℕ) → 16 ≤ p → p < 24 → b < 128 → decided p b ≡ meaning p b
+decided-is p b from below less = agree-grid decided meaning 16 8 128 refl p b from below less
+
+-- 10 to 1F, by the upper digit
+pub in-row-one : (a : ℕ) → a < 128 → eqb (a / 16) 1 ≡ isCommand a
+in-row-one a less = agree (λ (x : ℕ). eqb (x / 16) 1) isCommand 128 refl a less
+
+-- 20 to 2F, by the upper digit
+pub in-row-two : (b : ℕ) → b < 256 → eqb (b / 16) 2 ≡ within 0x20 0x2F b
+in-row-two b less = agree (λ (x : ℕ). eqb (x / 16) 2) (within 0x20 0x2F) 256 refl b less
+
+-- the channel bit goes by the remainder
+pub without-channel : (a : ℕ) → 16 ≤ a → a < 32 → a % 8 + 16 ≡ withoutChannel a
+without-channel a from below = agree-from (λ (x : ℕ). x % 8 + 16) withoutChannel 16 16 refl a from below
+
+-- taking the field away keeps the first byte between 10 and 17
+between : (t : Bool) (p : ℕ) → 16 ≤ p → p < 24 → (16 ≤ cond t 0x14 p) × (cond t 0x14 p < 24)
+between true p from below = (lit≤ tt, lit< tt)
+between false p from below = (from, below)
+
+pub without-field-between : (p b : ℕ) → 16 ≤ p → p < 24 → (16 ≤ withoutField p b) × (withoutField p b < 24)
+without-field-between p b from below = between (within 0x20 0x2F b && eqb p 0x15) p from below
+
+pub channel-by-bit : (a : ℕ) → a < 32 → channelFrom (ltb a 24) ≡ channelOf a
+channel-by-bit a below = agree (λ (x : ℕ). channelFrom (ltb x 24)) channelOf 32 refl a below
+
+-- a control code put together from its parts
+abbrev pub said : ℕ → ℕ → Meaning → Control
+said a b (meant.Of c) = c
+said a b meant.Nothing = control.Unknown a b
+
+said-is : (a b : ℕ) (o : Option Control) → said a b (meaningOf o) ≡ orUnknown a b o
+said-is a b none = refl
+said-is a b (some c) = refl
+
+pub parsed : (a b p : ℕ) (f : CodeField) (r : Meaning) → 16 ≤ a → a < 32 → f ≡ fieldOf (a % 8 + 16) b → p ≡ withoutField (a % 8 + 16) b → r ≡ meaningOf (meaning p b) → _≡_ {A = ControlCode} (record { field = f; channel = channelFrom (ltb a 24); control = said a b r }) (commandOf a b)
+parsed a b p f r from below field prefix found =
+    simp (found, prefix, field, said-is, channel-by-bit a below, without-channel a from below)
+
+-- a single byte, by the table of characters
+abbrev pub codeOr : ℕ → Option ℕ → Code
+codeOr b none = code.Unknown b
+codeOr b (some i) = codeAt i
+
+pub found-single : (b : ℕ) → b < 128 → codeOr b (position b (map bytesOf codeEntries)) ≡ single b
+found-single b less = agree (λ (x : ℕ). codeOr x (position x (map bytesOf codeEntries))) single 128 refl b less
+
+-- a row that has a second half leaves room for it
+pub first-row-small : (n : ℕ) → n < 8 → firstRowAt n < 14
+first-row-small n less = ltb-true (firstRowAt n) 14 (agree (λ (x : ℕ). ltb (firstRowAt x) 14) (λ (x : ℕ). true) 8 refl n less)

@@ -1,0 +1,109 @@
+-- The pair that a code is written into. 47 CFR 79.101 rules for the bytes of its control codes and characters and for
+-- parity; 01 for extended characters, the field, `Unknown`, the lengths, and refusals 2 and 3.
+use Prim.Native.Nat.{ℕ, _+_, _*_, _/_, _%_}
+use mathlib.Core.Bool.{Bool, true, false, cond, _&&_, not}
+use mathlib.Core.List.{List, [], _∷_}
+use lib.Dec.{eqb, leb, ltb}
+use lib.ListN.{getD}
+use Rattle.code.specs.Column.{columnNumber}
+use Rattle.code.specs.Control.{commandNumber, tabNumber}
+use Rattle.code.specs.Letter.{letterPlace}
+use Rattle.code.specs.MidRow.{midRowNumber}
+use Rattle.code.specs.Outcome.{Outcome, answer, refused}
+use Rattle.code.specs.Parity.{withParity}
+use Rattle.code.specs.Preamble.{styleOf}
+use Rattle.code.specs.Read.{rowPrefixes, within}
+use Rattle.code.specs.Symbol.{symbolRowNumber}
+use Rattle.code.specs.declared.channel.Channel.{Channel}
+use Rattle.code.specs.declared.code.Code.{Code}
+use Rattle.code.specs.declared.code.Code.the-variants as code
+use Rattle.code.specs.declared.control.CodeField.{CodeField}
+use Rattle.code.specs.declared.control.CodeField.the-variants.{Of, Absent}
+use Rattle.code.specs.declared.control.Control.{Control}
+use Rattle.code.specs.declared.control.Control.the-variants as control
+use Rattle.code.specs.declared.control.ControlCode.{ControlCode}
+use Rattle.code.specs.declared.midrow.MidRow.{MidRow}
+use Rattle.code.specs.declared.pair.Pair.{Pair}
+use Rattle.code.specs.declared.preamble.PreambleAddressCode.{PreambleAddressCode}
+use Rattle.code.specs.declared.symbol.Symbol.{Symbol}
+use Rattle.code.specs.declared.write.Bytes.{Bytes}
+use Rattle.code.specs.declared.write.Bytes.the-variants as bytes
+use Rattle.code.specs.declared.write.Written.{Written}
+use Rattle.code.specs.declared.write.Written.the-variants.{Made, UnknownByte, NoSuchRow}
+
+abbrev pub pair : ℕ → ℕ → Pair
+pair a b = record { 0 = a; 1 = b }
+
+abbrev pub bit : Bool → ℕ
+bit true = 1
+bit false = 0
+
+-- two bytes given as one number
+abbrev pub twoBytes : ℕ → Pair
+twoBytes n = pair (n / 256) (n % 256)
+
+-- 11 20 on
+abbrev pub midRowBytes : MidRow → Pair
+midRowBytes m = pair 0x11 (0x20 + 2 * midRowNumber m + bit (m .underline))
+
+-- the first of each row of symbols
+abbrev pub symbolBases : List ℕ
+symbolBases = 0x1130 ∷ 0x1220 ∷ 0x1230 ∷ 0x1320 ∷ 0x1330 ∷ []
+
+abbrev pub symbolBytes : Symbol → Pair
+symbolBytes s = twoBytes (getD symbolBases (symbolRowNumber (s .row)) 0 + columnNumber (s .column))
+
+abbrev pub preambleBytes : PreambleAddressCode → Pair
+preambleBytes p = twoBytes (getD rowPrefixes (p .row) 0 + 2 * styleOf (p .ty) + bit (p .underline))
+
+-- the two bytes of a control, channel, field and parity aside; 3: a row above 14; 2: a byte of 0x80 or more
+abbrev pub controlBytes : Control → Outcome Pair
+controlBytes (control.MidRow m) = answer (midRowBytes m)
+controlBytes (control.Symbol s) = answer (symbolBytes s)
+controlBytes (control.Command c) = answer (pair 0x14 (0x20 + commandNumber c))
+controlBytes (control.Tab t) = answer (pair 0x17 (0x20 + tabNumber t))
+controlBytes (control.Preamble p) = cond (leb (p .row) 14) (answer (preambleBytes p)) (refused 3)
+controlBytes (control.Unknown a b) = cond (ltb a 0x80 && ltb b 0x80) (answer (pair a b)) (refused 2)
+
+-- field two turns 14 before 20 to 2F into 15
+abbrev pub isFieldTwo : CodeField → Bool
+isFieldTwo (Of f) = not (f .0)
+isFieldTwo Absent = false
+
+abbrev pub withField : CodeField → Pair → ℕ
+withField f p = cond (isFieldTwo f && eqb (p .0) 0x14 && within 0x20 0x2F (p .1)) 0x15 (p .0)
+
+-- channel two sets bit 0x08
+abbrev pub withBit8 : ℕ → ℕ
+withBit8 a = cond (eqb (a / 8 % 2) 1) a (a + 8)
+
+abbrev pub withChannel : Channel → ℕ → ℕ
+withChannel c a = cond (c .0) a (withBit8 a)
+
+abbrev pub onLine : CodeField → Channel → Pair → Pair
+onLine f c p = pair (withParity (withChannel c (withField f p))) (withParity (p .1))
+
+-- a command fills the pair and has length 2
+abbrev pub asCommand : CodeField → Channel → Outcome Pair → Outcome (Pair × ℕ)
+asCommand f c (answer p) = answer (onLine f c p, 2)
+asCommand f c (refused n) = refused n
+
+-- a single code stands first, with NUL behind it, and has length 1
+abbrev pub asSingle : ℕ → Outcome (Pair × ℕ)
+asSingle b = answer (pair (withParity b) 0x80, 1)
+
+abbrev pub writeCode : Code → Outcome (Pair × ℕ)
+writeCode code.Nul = asSingle 0
+writeCode (code.Control c) = asCommand (c .field) (c .channel) (controlBytes (c .control))
+writeCode (code.Letter l) = asSingle (0x20 + letterPlace l)
+writeCode (code.Unknown b) = cond (ltb b 0x80) (asSingle b) (refused 2)
+
+abbrev pub writtenOutcome : Written → Outcome (Pair × ℕ)
+writtenOutcome (Made p n) = answer (p, n)
+writtenOutcome UnknownByte = refused 2
+writtenOutcome NoSuchRow = refused 3
+
+abbrev pub bytesOutcome : Bytes → Outcome Pair
+bytesOutcome (bytes.Are p) = answer p
+bytesOutcome bytes.UnknownByte = refused 2
+bytesOutcome bytes.NoSuchRow = refused 3

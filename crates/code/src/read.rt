@@ -1,0 +1,210 @@
+// Reading a pair: what was received becomes a command, or two single codes.
+ghost use mathlib.Core.Path.{_≡_};
+ghost use Prim.Native.Nat.{_≤_, _<_, _%_};
+ghost use Rattle.code.specs.Read.{readPair, fromDataOutcome, single, commandOf, fieldOf, withoutField, meaning};
+ghost use Rattle.code.specs.Tables.{codeAt, controlAt, firstRowAt, meaningOf};
+
+use crate::channel::Channel;
+use crate::channel::Field;
+use crate::code::Code;
+use crate::control::CodeField;
+use crate::control::Command;
+use crate::control::Control;
+use crate::control::ControlCode;
+use crate::control::Tab;
+use crate::letter::Letter;
+use crate::midrow::MidRow;
+use crate::pair::Pair;
+use crate::parity::check_odd_parity;
+use crate::parity::strip_parity;
+use crate::preamble::PreambleAddressCode;
+use crate::preamble::PreambleType;
+use crate::symbol::Symbol;
+use crate::tables::CODE_MAP_TABLE;
+use crate::tables::CONTROL_MAP_TABLE;
+use crate::tables::Found;
+use crate::tables::find_bytes;
+
+// The codes of a received pair. `InvalidParity` is refusal 1.
+pub enum FromData {
+    Codes(Code, Code),
+    InvalidParity,
+}
+
+// What a control code says, where it says anything.
+pub(crate) enum Meaning {
+    Of(Control),
+    Nothing,
+}
+
+impl Code {
+    // The codes of a pair: a command and NUL, or two single codes.
+    pub fn from_data(pair: Pair) -> FromData
+        ensures { λ r. ⌜ fromDataOutcome r ≡ readPair (pair .0) (pair .1) ⌝ }
+    {
+        let received0 = pair.0;
+        let received1 = pair.1;
+        if !check_odd_parity(received0) {
+            return FromData::InvalidParity;
+        }
+        if !check_odd_parity(received1) {
+            return FromData::InvalidParity;
+        }
+        let first = strip_parity(received0);
+        let second = strip_parity(received1);
+        if first / 16 == 1 {
+            FromData::Codes(Code::Control(ControlCode::parse(first, second)), Code::Nul)
+        } else {
+            FromData::Codes(Code::from_byte(first), Code::from_byte(second))
+        }
+    }
+
+    // The code of one stripped byte, found in the table of characters.
+    pub(crate) fn from_byte(byte: u8) -> Code
+        requires { ⌜ byte < 128 ⌝ }
+        ensures { λ r. ⌜ r ≡ single byte ⌝ }
+    {
+        let table = CODE_MAP_TABLE;
+        match find_bytes(&table, byte as u32) {
+            Found::At(i) => Code::at(i),
+            Found::Nothing => Code::Unknown(byte),
+        }
+    }
+
+    // The code at an entry of the table of characters.
+    pub(crate) fn at(entry: usize) -> Code
+        requires { ⌜ entry < 97 ⌝ }
+        ensures { λ r. ⌜ r ≡ codeAt entry ⌝ }
+    {
+        if entry == 0 {
+            Code::Nul
+        } else {
+            Code::Letter(Letter::at((entry - 1) as u8))
+        }
+    }
+}
+
+impl ControlCode {
+    // The control code of two stripped bytes.
+    pub(crate) fn parse(first: u8, second: u8) -> ControlCode
+        requires { ⌜ (16 ≤ first) × (first < 32) × (second < 128) ⌝ }
+        ensures { λ r. ⌜ r ≡ commandOf first second ⌝ }
+    {
+        let channel = Channel(first < 0x18);
+        let prefix = first % 8 + 0x10;
+        let field = field_of(prefix, second);
+        let control = match Control::parse(without_field(prefix, second), second) {
+            Meaning::Of(control) => control,
+            Meaning::Nothing => Control::Unknown(first, second),
+        };
+        ControlCode {
+            field: field,
+            channel: channel,
+            control: control,
+        }
+    }
+}
+
+// The field that a command names.
+pub(crate) fn field_of(prefix: u8, second: u8) -> CodeField
+    ensures { λ r. ⌜ r ≡ fieldOf prefix second ⌝ }
+{
+    if second / 16 == 2 {
+        match prefix {
+            0x14 => CodeField::Of(Field::ONE),
+            0x15 => CodeField::Of(Field::TWO),
+            _ => CodeField::Absent,
+        }
+    } else {
+        CodeField::Absent
+    }
+}
+
+// The first byte as field one has it: 15 before 20 to 2F is 14.
+pub(crate) fn without_field(prefix: u8, second: u8) -> u8
+    ensures { λ r. ⌜ r ≡ withoutField prefix second ⌝ }
+{
+    if second / 16 == 2 {
+        if prefix == 0x15 {
+            return 0x14;
+        }
+    }
+    prefix
+}
+
+impl Control {
+    // What two bytes say, channel and field aside.
+    pub(crate) fn parse(prefix: u8, second: u8) -> Meaning
+        requires { ⌜ (16 ≤ prefix) × (prefix < 24) × (second < 128) ⌝ }
+        ensures { λ r. ⌜ r ≡ meaningOf (meaning prefix second) ⌝ }
+    {
+        if 0x40 <= second {
+            return Control::parse_preamble(prefix, second);
+        }
+        let bytes = (prefix as u32) * 256 + (second as u32);
+        if bytes / 16 == 0x112 {
+            return Meaning::Of(Control::MidRow(MidRow::at((second - 0x20) / 2, second % 2 == 1)));
+        }
+        let table = CONTROL_MAP_TABLE;
+        match find_bytes(&table, bytes) {
+            Found::At(i) => Meaning::Of(Control::at(i)),
+            Found::Nothing => Meaning::Nothing,
+        }
+    }
+
+    // The preamble of two bytes, or nothing: 10 before 60 to 7F is no row.
+    pub(crate) fn parse_preamble(prefix: u8, second: u8) -> Meaning
+        requires { ⌜ (16 ≤ prefix) × (prefix < 24) × (64 ≤ second) × (second < 128) ⌝ }
+        ensures { λ r. ⌜ r ≡ meaningOf (meaning prefix second) ⌝ }
+    {
+        let row = first_row(prefix % 8);
+        let ty = PreambleType::at(second % 32 / 2);
+        let underline = second % 2 == 1;
+        if second < 0x60 {
+            return Meaning::Of(Control::Preamble(PreambleAddressCode {
+                row: row,
+                underline: underline,
+                ty: ty,
+            }));
+        }
+        if prefix == 0x10 {
+            return Meaning::Nothing;
+        }
+        Meaning::Of(Control::Preamble(PreambleAddressCode {
+            row: row + 1,
+            underline: underline,
+            ty: ty,
+        }))
+    }
+
+    // The control at an entry of the control table.
+    pub(crate) fn at(entry: usize) -> Control
+        requires { ⌜ entry < 99 ⌝ }
+        ensures { λ r. ⌜ r ≡ controlAt entry ⌝ }
+    {
+        if entry < 80 {
+            Control::Symbol(Symbol::at(entry as u8))
+        } else if entry < 96 {
+            Control::Command(Command::at((entry - 80) as u8))
+        } else {
+            Control::Tab(Tab::at((entry - 96) as u8))
+        }
+    }
+}
+
+// The row of 40 to 5F after each of the first bytes 10 to 17.
+pub(crate) fn first_row(prefix: u8) -> u8
+    requires { ⌜ prefix < 8 ⌝ }
+    ensures { λ r. ⌜ r ≡ firstRowAt prefix ⌝ }
+{
+    match prefix {
+        0 => 10,
+        1 => 0,
+        2 => 2,
+        3 => 11,
+        4 => 13,
+        5 => 4,
+        6 => 6,
+        _ => 8,
+    }
+}
