@@ -6,7 +6,9 @@ use mathlib.Core.List.{map}
 use mathlib.Core.Option.{Option, none, some}
 use mathlib.Core.Path.{_≡_, refl}
 use Prim.Native.Nat.{ℕ, _+_, _*_, _-_, _/_, _%_, _≤_, _<_}
-use borrow.Author.Tests.{ltb-true}
+use native.Mathlib.Decide.{decLt}
+use native.Mathlib.Omega.{arith}
+use borrow.Author.Tests.{le-leb, lt-leb, ltb-true, ne-eqb}
 use lib.Dec.{eqb, leb, ltb, lit<, lit≤}
 use Rattle.code.proofs.Agree.{agree, agree-from, agree-grid}
 use Rattle.code.specs.MidRow.{midRowAt}
@@ -51,8 +53,12 @@ pub in-row-one : (a : ℕ) → a < 128 → eqb (a / 16) 1 ≡ isCommand a
 in-row-one a less = agree (λ (x : ℕ). eqb (x / 16) 1) isCommand 128 refl a less
 
 -- 20 to 2F, by the upper digit
-pub in-row-two : (b : ℕ) → b < 256 → eqb (b / 16) 2 ≡ within 0x20 0x2F b
-in-row-two b less = agree (λ (x : ℕ). eqb (x / 16) 2) (within 0x20 0x2F) 256 refl b less
+pub in-row-two : (b : ℕ) → eqb (b / 16) 2 ≡ within 0x20 0x2F b
+in-row-two b =
+    elim (decLt b 256) [
+      yes less ↦ agree (λ (x : ℕ). eqb (x / 16) 2) (within 0x20 0x2F) 256 refl b less
+    | no more ↦ simp (ne-eqb (b / 16) 2 (λ (e : b / 16 ≡ 2). omega arith), le-leb 0x20 b (omega arith), lt-leb b 0x2F (omega arith))
+    ]
 
 -- the channel bit goes by the remainder
 pub without-channel : (a : ℕ) → 16 ≤ a → a < 32 → a % 8 + 16 ≡ withoutChannel a

@@ -1,22 +1,33 @@
 -- The numbers of the small enums: each is below the count of cases, and the case at a case's number is that case.
 -- Assumes nothing.
 use mathlib.Core.Path.{_≡_, refl}
-use Prim.Native.Nat.{ℕ, _<_}
+use Prim.Native.Nat.{ℕ, _-_, _<_}
+use native.Mathlib.Nat.{lt-trans}
+use native.Mathlib.Omega.{arith}
 use lib.Dec.{lit<}
 use Rattle.code.specs.Color.{colorAt, colorNumber}
 use Rattle.code.specs.Column.{columnAt, columnNumber}
-use Rattle.code.specs.Control.{commandAt, commandNumber, tabNumber}
-use Rattle.code.specs.Letter.{letterRowAt, letterRowNumber}
+use Rattle.code.specs.Control.{commandAt, commandNumber, tabAt, tabNumber}
+use Rattle.code.specs.Letter.{letterPlace, letterRowAt, letterRowNumber}
+use Rattle.code.specs.MidRow.{kindNumber}
 use Rattle.code.specs.Preamble.{styleAt, styleOf}
-use Rattle.code.specs.Symbol.{symbolRowAt, symbolRowNumber}
+use Rattle.code.specs.Symbol.{symbolPlace, symbolRowAt, symbolRowNumber}
 use Rattle.code.specs.declared.color.Color as color
 use Rattle.code.specs.declared.color.Color.the-variants.{White, Green, Blue, Cyan, Red, Yellow, Magenta}
 use Rattle.code.specs.declared.column.Column.{Column}
 use Rattle.code.specs.declared.column.Column.the-variants.{C0, C1, C2, C3, C4, C5, C6, C7, C8, C9, CA, CB, CC, CD, CE, CF}
+use Rattle.code.specs.declared.control.Command.{Command}
+use Rattle.code.specs.declared.control.Command.the-variants as command
+use Rattle.code.specs.declared.control.Tab.{Tab}
+use Rattle.code.specs.declared.control.Tab.the-variants as tab
+use Rattle.code.specs.declared.letter.Letter.{Letter}
 use Rattle.code.specs.declared.letter.LetterRow.{LetterRow}
 use Rattle.code.specs.declared.letter.LetterRow.the-variants.{Row2, Row3, Row4, Row5, Row6, Row7}
+use Rattle.code.specs.declared.midrow.MidRowColor.{MidRowColor}
+use Rattle.code.specs.declared.midrow.MidRowColor.the-variants as kind
 use Rattle.code.specs.declared.preamble.PreambleType.{PreambleType}
 use Rattle.code.specs.declared.preamble.PreambleType.the-variants as style
+use Rattle.code.specs.declared.symbol.Symbol.{Symbol}
 use Rattle.code.specs.declared.symbol.SymbolRow.{SymbolRow}
 use Rattle.code.specs.declared.symbol.SymbolRow.the-variants.{Special, Spanish, French, Portuguese, German}
 
@@ -87,3 +98,41 @@ style-back style.Indent16 = (lit< tt, refl)
 style-back style.Indent20 = (lit< tt, refl)
 style-back style.Indent24 = (lit< tt, refl)
 style-back style.Indent28 = (lit< tt, refl)
+
+pub kind-small : (k : MidRowColor) → kindNumber k < 8
+kind-small (kind.Color c) = lt-trans (color-back c .0) (lit< tt)
+kind-small kind.Italics = lit< tt
+
+pub command-back : (c : Command) → Back commandAt commandNumber 16 c
+command-back command.ResumeCaptionLoading = (lit< tt, refl)
+command-back command.Backspace = (lit< tt, refl)
+command-back command.AlarmOff = (lit< tt, refl)
+command-back command.AlarmOn = (lit< tt, refl)
+command-back command.DeleteToEndOfRow = (lit< tt, refl)
+command-back command.RollUp2 = (lit< tt, refl)
+command-back command.RollUp3 = (lit< tt, refl)
+command-back command.RollUp4 = (lit< tt, refl)
+command-back command.FlashOn = (lit< tt, refl)
+command-back command.ResumeDirectionCaptioning = (lit< tt, refl)
+command-back command.TextRestart = (lit< tt, refl)
+command-back command.ResumeTextDisplay = (lit< tt, refl)
+command-back command.EraseDisplayedMemory = (lit< tt, refl)
+command-back command.CarriageReturn = (lit< tt, refl)
+command-back command.EraseNonDisplayedMemory = (lit< tt, refl)
+command-back command.EndOfCaption = (lit< tt, refl)
+
+-- the tabs count from 1
+abbrev pub fromOne : Tab → ℕ
+fromOne t = tabNumber t - 1
+
+pub tab-back : (t : Tab) → Back tabAt fromOne 3 t
+tab-back tab.TabOffset1 = (lit< tt, refl)
+tab-back tab.TabOffset2 = (lit< tt, refl)
+tab-back tab.TabOffset3 = (lit< tt, refl)
+
+-- the places are made of row and column
+pub letter-small : (l : Letter) → letterPlace l < 96
+letter-small l = omega (arith, letter-row-back (l .row) .0, column-back (l .column) .0)
+
+pub symbol-small : (s : Symbol) → symbolPlace s < 80
+symbol-small s = omega (arith, symbol-row-back (s .row) .0, column-back (s .column) .0)

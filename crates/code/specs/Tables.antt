@@ -27,6 +27,9 @@ bytesOf e = e / 65536
 abbrev pub pointOf : ℕ → ℕ
 pointOf e = e % 65536
 
+abbrev pub entryPoint : ℕ → Option ℕ
+entryPoint e = cond (eqb (pointOf e) 0) none (some (pointOf e))
+
 -- entries for these code points, the bytes rising by one from the first
 abbrev pub entries : ℕ → List ℕ → List ℕ
 entries bytes [] = []

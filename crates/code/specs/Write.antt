@@ -26,6 +26,7 @@ use Rattle.code.specs.declared.midrow.MidRow.{MidRow}
 use Rattle.code.specs.declared.pair.Pair.{Pair}
 use Rattle.code.specs.declared.preamble.PreambleAddressCode.{PreambleAddressCode}
 use Rattle.code.specs.declared.symbol.Symbol.{Symbol}
+use Rattle.code.specs.declared.symbol.SymbolRow.{SymbolRow}
 use Rattle.code.specs.declared.write.Bytes.{Bytes}
 use Rattle.code.specs.declared.write.Bytes.the-variants as bytes
 use Rattle.code.specs.declared.write.Written.{Written}
@@ -50,11 +51,14 @@ midRowBytes m = pair 0x11 (0x20 + 2 * midRowNumber m + bit (m .underline))
 abbrev pub symbolBases : List ℕ
 symbolBases = 0x1130 ∷ 0x1220 ∷ 0x1230 ∷ 0x1320 ∷ 0x1330 ∷ []
 
+abbrev pub symbolBase : SymbolRow → Pair
+symbolBase r = twoBytes (getD symbolBases (symbolRowNumber r) 0)
+
 abbrev pub symbolBytes : Symbol → Pair
 symbolBytes s = twoBytes (getD symbolBases (symbolRowNumber (s .row)) 0 + columnNumber (s .column))
 
 abbrev pub preambleBytes : PreambleAddressCode → Pair
-preambleBytes p = twoBytes (getD rowPrefixes (p .row) 0 + 2 * styleOf (p .ty) + bit (p .underline))
+preambleBytes p = twoBytes (getD rowPrefixes (p .row) 0 + (2 * styleOf (p .ty) + bit (p .underline)))
 
 -- the two bytes of a control, channel, field and parity aside; 3: a row above 14; 2: a byte of 0x80 or more
 abbrev pub controlBytes : Control → Outcome Pair

@@ -1,11 +1,200 @@
+// Writing a code into a pair.
+ghost use mathlib.Core.Path.{_≡_};
+ghost use Prim.Native.Nat.{_<_};
+ghost use Rattle.code.specs.Write.{writeCode, writtenOutcome, asCommand, onLine, withField, withChannel};
+ghost use Rattle.code.specs.Write.{controlBytes, bytesOutcome, midRowBytes, symbolBytes, symbolBase, preambleBytes};
+
+use crate::channel::Channel;
+use crate::code::Code;
+use crate::control::CodeField;
+use crate::control::Control;
+use crate::control::ControlCode;
+use crate::midrow::MidRow;
 use crate::pair::Pair;
+use crate::parity::add_parity;
+use crate::preamble::PreambleAddressCode;
+use crate::symbol::Symbol;
+use crate::symbol::SymbolRow;
+use crate::tables::ROW_PREFIXES;
+
+// A written pair and how many of its bytes the code fills. `UnknownByte` is refusal 2, `NoSuchRow` refusal 3.
 pub enum Written {
     Made(Pair, usize),
     UnknownByte,
     NoSuchRow,
 }
+
+// The two bytes of a control, channel, field and parity aside, or its refusal.
 pub(crate) enum Bytes {
     Are(Pair),
     UnknownByte,
     NoSuchRow,
+}
+
+impl Code {
+    // The pair that the code is sent as: a single code with NUL behind it, a command by itself.
+    pub fn write(self) -> Written
+        ensures { λ r. ⌜ writtenOutcome r ≡ writeCode self ⌝ }
+    {
+        match self {
+            Code::Nul => Written::Made(Pair(0x80, 0x80), 1),
+            Code::Control(code) => code.write(),
+            Code::Letter(letter) => Written::Made(Pair(add_parity(0x20 + letter.place()), 0x80), 1),
+            Code::Unknown(byte) => {
+                if byte < 0x80 {
+                    Written::Made(Pair(add_parity(byte), 0x80), 1)
+                } else {
+                    Written::UnknownByte
+                }
+            }
+        }
+    }
+}
+
+impl ControlCode {
+    // The pair that the control code is sent as.
+    pub(crate) fn write(self) -> Written
+        ensures { λ r. ⌜ writtenOutcome r ≡ asCommand (self .field) (self .channel) (controlBytes (self .control)) ⌝ }
+    {
+        let field = self.field;
+        let channel = self.channel;
+        let control = self.control;
+        match control.bytes() {
+            Bytes::Are(bytes) => Written::Made(on_line(field, channel, bytes), 2),
+            Bytes::UnknownByte => Written::UnknownByte,
+            Bytes::NoSuchRow => Written::NoSuchRow,
+        }
+    }
+}
+
+// Two bytes with their field, channel and parity.
+pub(crate) fn on_line(field: CodeField, channel: Channel, bytes: Pair) -> Pair
+    ensures { λ r. ⌜ r ≡ onLine field channel bytes ⌝ }
+{
+    let first = with_channel(channel, with_field(field, bytes));
+    let second = bytes.1;
+    Pair(add_parity(first), add_parity(second))
+}
+
+// The first byte for a field: 15 for 14 before 20 to 2F on field two.
+pub(crate) fn with_field(field: CodeField, bytes: Pair) -> u8
+    ensures { λ r. ⌜ r ≡ withField field bytes ⌝ }
+{
+    let first = bytes.0;
+    let second = bytes.1;
+    match field {
+        CodeField::Of(named) => {
+            if named.0 {
+                return first;
+            }
+            if first == 0x14 {
+                if second / 16 == 2 {
+                    return 0x15;
+                }
+            }
+            first
+        }
+        CodeField::Absent => first,
+    }
+}
+
+// The first byte for a channel: with bit 0x08 for channel two.
+pub(crate) fn with_channel(channel: Channel, first: u8) -> u8
+    ensures { λ r. ⌜ r ≡ withChannel channel first ⌝ }
+{
+    if channel.0 {
+        return first;
+    }
+    if first / 8 % 2 == 1 { first } else { first + 8 }
+}
+
+impl Control {
+    // The two bytes of a control, channel, field and parity aside.
+    pub(crate) fn bytes(self) -> Bytes
+        ensures { λ r. ⌜ bytesOutcome r ≡ controlBytes self ⌝ }
+    {
+        match self {
+            Control::MidRow(code) => Bytes::Are(code.bytes()),
+            Control::Symbol(symbol) => Bytes::Are(symbol.bytes()),
+            Control::Command(command) => Bytes::Are(Pair(0x14, 0x20 + command.number())),
+            Control::Tab(tab) => Bytes::Are(Pair(0x17, 0x20 + tab.number())),
+            Control::Preamble(preamble) => {
+                let row = preamble.row;
+                if row < 15 {
+                    Bytes::Are(preamble.bytes())
+                } else {
+                    Bytes::NoSuchRow
+                }
+            }
+            Control::Unknown(first, second) => {
+                if 0x80 <= first {
+                    return Bytes::UnknownByte;
+                }
+                if 0x80 <= second {
+                    return Bytes::UnknownByte;
+                }
+                Bytes::Are(Pair(first, second))
+            }
+        }
+    }
+}
+
+impl MidRow {
+    // 11, then 20 and on: twice the number of the colour, and the underline.
+    pub(crate) fn bytes(self) -> Pair
+        ensures { λ r. ⌜ r ≡ midRowBytes self ⌝ }
+    {
+        let number = self.number();
+        if self.underline {
+            Pair(0x11, 0x20 + 2 * number + 1)
+        } else {
+            Pair(0x11, 0x20 + 2 * number)
+        }
+    }
+}
+
+impl SymbolRow {
+    // The bytes of the row's first symbol.
+    pub(crate) fn base(self) -> Pair
+        ensures { λ r. ⌜ r ≡ symbolBase self ⌝ }
+    {
+        match self {
+            SymbolRow::Special => Pair(0x11, 0x30),
+            SymbolRow::Spanish => Pair(0x12, 0x20),
+            SymbolRow::French => Pair(0x12, 0x30),
+            SymbolRow::Portuguese => Pair(0x13, 0x20),
+            SymbolRow::German => Pair(0x13, 0x30),
+        }
+    }
+}
+
+impl Symbol {
+    // The row's first bytes, and the column.
+    pub(crate) fn bytes(self) -> Pair
+        ensures { λ r. ⌜ r ≡ symbolBytes self ⌝ }
+    {
+        let row = self.row;
+        let column = self.column;
+        let base = row.base();
+        Pair(base.0, base.1 + column.number())
+    }
+}
+
+impl PreambleAddressCode {
+    // The row's prefix, and in the second byte twice the style and the underline.
+    pub(crate) fn bytes(self) -> Pair
+        requires { ⌜ self .row < 15 ⌝ }
+        ensures { λ r. ⌜ r ≡ preambleBytes self ⌝ }
+    {
+        let table = ROW_PREFIXES;
+        let row = self.row as usize;
+        let prefix = table[row];
+        let ty = self.ty;
+        let style = ty.style();
+        if self.underline {
+            Pair(prefix.0, prefix.1 + 2 * style + 1)
+        } else {
+            Pair(prefix.0, prefix.1 + 2 * style)
+        }
+    }
 }
