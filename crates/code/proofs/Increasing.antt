@@ -48,8 +48,8 @@ module _ (t : List ℕ) (x low high m : ℕ) (rises : Increasing t) (so-far : Na
 pub nowhere : (t : List ℕ) (x low high : ℕ) → Narrowed t x low high → high ≤ low → (k : ℕ) → k < length t → keyAt t k ≡ x → ⊥
 nowhere t x low high n done k less here =
     elim (decLt k low) [
-      yes w ↦ omega (arith, n .below k w)
-    | no w ↦ omega (arith, n .above k (omega arith) less)
+      | yes w ↦ omega (arith, n .below k w)
+      | no w ↦ omega (arith, n .above k (omega arith) less)
     ]
 
 both : (a b : Bool) → T (a && b) → T a × T b

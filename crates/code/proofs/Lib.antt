@@ -6,3 +6,7 @@ pub mod Keys
 pub mod Lookup
 pub mod Meaning
 pub mod Numbers
+pub mod OneAnswer
+pub mod RoundTrip
+pub mod TableRules
+pub mod Written

@@ -56,8 +56,8 @@ in-row-one a less = agree (λ (x : ℕ). eqb (x / 16) 1) isCommand 128 refl a le
 pub in-row-two : (b : ℕ) → eqb (b / 16) 2 ≡ within 0x20 0x2F b
 in-row-two b =
     elim (decLt b 256) [
-      yes less ↦ agree (λ (x : ℕ). eqb (x / 16) 2) (within 0x20 0x2F) 256 refl b less
-    | no more ↦ simp (ne-eqb (b / 16) 2 (λ (e : b / 16 ≡ 2). omega arith), le-leb 0x20 b (omega arith), lt-leb b 0x2F (omega arith))
+      | yes less ↦ agree (λ (x : ℕ). eqb (x / 16) 2) (within 0x20 0x2F) 256 refl b less
+      | no more ↦ simp (ne-eqb (b / 16) 2 (λ (e : b / 16 ≡ 2). omega arith), le-leb 0x20 b (omega arith), lt-leb b 0x2F (omega arith))
     ]
 
 -- the channel bit goes by the remainder

@@ -27,7 +27,7 @@ use Rattle.code.specs.declared.control.Command.the-variants.{
   EraseDisplayedMemory,
   CarriageReturn,
   EraseNonDisplayedMemory,
-  EndOfCaption
+  EndOfCaption,
 }
 use Rattle.code.specs.declared.control.Control.{Control}
 use Rattle.code.specs.declared.control.Control.the-variants as control

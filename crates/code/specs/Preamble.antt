@@ -29,7 +29,7 @@ use Rattle.code.specs.declared.preamble.PreambleType.the-variants.{
   Indent16,
   Indent20,
   Indent24,
-  Indent28
+  Indent28,
 }
 
 -- the styles that are no colour

@@ -107,6 +107,16 @@ writtenOutcome (Made p n) = answer (p, n)
 writtenOutcome UnknownByte = refused 2
 writtenOutcome NoSuchRow = refused 3
 
+-- two codes that were read from one pair are written as the command, or as the two single bytes
+abbrev pub together : Outcome (Pair × ℕ) → Outcome (Pair × ℕ) → Outcome Pair
+together (answer x) (answer y) = answer (cond (eqb (x .1) 2) (x .0) (pair (x .0 .0) (y .0 .0)))
+together (answer x) (refused n) = refused n
+together (refused n) (answer y) = refused n
+together (refused n) (refused m) = refused n
+
+abbrev pub writeTwo : Code → Code → Outcome Pair
+writeTwo x y = together (writeCode x) (writeCode y)
+
 abbrev pub bytesOutcome : Bytes → Outcome Pair
 bytesOutcome (bytes.Are p) = answer p
 bytesOutcome bytes.UnknownByte = refused 2

@@ -6,7 +6,6 @@ ghost use Rattle.code.specs.Code.{charOf, controlChar, characterOutcome,
 ghost use Rattle.code.specs.Characters.{pointIn, standard, symbols};
 ghost use Rattle.code.specs.Letter.{letterPlace};
 ghost use Rattle.code.specs.Symbol.{symbolPlace};
-
 use crate::channel::Channel;
 use crate::code::Code;
 use crate::control::CodeField;

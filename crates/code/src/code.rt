@@ -1,7 +1,6 @@
 // A code: what one byte or one pair stands for.
 ghost use mathlib.Core.Path.{_≡_};
 ghost use Rattle.code.specs.Code.{byteLen, needsBackspace, controlNeedsBackspace, isExtended};
-
 use crate::control::Control;
 use crate::control::ControlCode;
 use crate::letter::Letter;

@@ -2,7 +2,6 @@
 ghost use mathlib.Core.Path.{_≡_};
 ghost use Prim.Native.Nat.{_<_};
 ghost use Rattle.code.specs.Letter.{letterRowAt, letterRowNumber, letterAt, letterPlace};
-
 use crate::column::Column;
 
 // The rows, by the high digit of the byte.

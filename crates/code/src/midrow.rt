@@ -2,7 +2,6 @@
 ghost use mathlib.Core.Path.{_≡_};
 ghost use Prim.Native.Nat.{_<_};
 ghost use Rattle.code.specs.MidRow.{midRowAt, midRowNumber, colored, italic, colorIn, isItalic, isUnderlined};
-
 use crate::color::Color;
 
 pub enum MidRowColor {

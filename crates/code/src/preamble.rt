@@ -3,7 +3,6 @@ ghost use mathlib.Core.Path.{_≡_};
 ghost use Prim.Native.Nat.{_<_};
 ghost use Rattle.code.specs.Preamble.{styleAt, plainStyleAt, styleOf, colorType, colorOfStyle, indentIn, fromIndent, fromIndentOutcome};
 ghost use Rattle.code.specs.Preamble.{newPreamble, newPreambleOutcome, rowIn, columnIn, typeIn, underlineIn, italicsIn, colorInRow};
-
 use crate::color::Color;
 
 // The sixteen styles. An indent is white and not in italics.

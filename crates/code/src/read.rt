@@ -3,7 +3,6 @@ ghost use mathlib.Core.Path.{_≡_};
 ghost use Prim.Native.Nat.{_≤_, _<_, _%_};
 ghost use Rattle.code.specs.Read.{readPair, fromDataOutcome, single, commandOf, fieldOf, withoutField, meaning};
 ghost use Rattle.code.specs.Tables.{codeAt, controlAt, firstRowAt, meaningOf};
-
 use crate::channel::Channel;
 use crate::channel::Field;
 use crate::code::Code;

@@ -2,7 +2,6 @@
 ghost use mathlib.Core.Path.{_≡_};
 ghost use Prim.Native.Nat.{_<_};
 ghost use Rattle.code.specs.Symbol.{symbolRowAt, symbolRowNumber, symbolAt, symbolPlace};
-
 use crate::column::Column;
 
 // The rows, in the order of their bytes.

@@ -4,7 +4,6 @@ ghost use mathlib.Core.List.{map};
 ghost use mathlib.Core.Path.{_≡_};
 ghost use Rattle.code.specs.Position.{position};
 ghost use Rattle.code.specs.Tables.{bytesOf, pointOf, foundAt, Increasing};
-
 use crate::pair::Pair;
 
 // The first two bytes of each row's preambles, in row order 0 to 14: the style and the underline are added to the second.

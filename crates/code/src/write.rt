@@ -3,7 +3,6 @@ ghost use mathlib.Core.Path.{_≡_};
 ghost use Prim.Native.Nat.{_<_};
 ghost use Rattle.code.specs.Write.{writeCode, writtenOutcome, asCommand, onLine, withField, withChannel};
 ghost use Rattle.code.specs.Write.{controlBytes, bytesOutcome, midRowBytes, symbolBytes, symbolBase, preambleBytes};
-
 use crate::channel::Channel;
 use crate::code::Code;
 use crate::control::CodeField;

@@ -41,7 +41,7 @@ shared-slice-read-here c = omega arith
 
 -- src/tables.rt:250:13
 returns : tie.Need-returns Inv-loop μ-loop
-returns c = 
+returns c =
     let head = c .before .before .before .loop in
     let start = c .before .before .before .before in
     let m = head .low + (head .high - head .low) / 2 in
@@ -62,7 +62,7 @@ loop-less c = omega arith
 
 -- src/tables.rt:246:5
 loop-again : tie.Need-loop-again Inv-loop μ-loop
-loop-again c = 
+loop-again c =
     let head = c .before .before .before .before .loop in
     let start = c .before .before .before .before .before in
     look-above (now (start .args .table)) (start .args .bytes) (head .low) (head .high) (head .low + (head .high - head .low) / 2)
@@ -77,7 +77,7 @@ loop-less-2 c = omega arith
 
 -- src/tables.rt:246:5
 loop-again-2 : tie.Need-loop-again-2 Inv-loop μ-loop
-loop-again-2 c = 
+loop-again-2 c =
     let head = c .before .before .before .before .loop in
     let start = c .before .before .before .before .before in
     look-below (now (start .args .table)) (start .args .bytes) (head .low) (head .high) (head .low + (head .high - head .low) / 2)
@@ -89,7 +89,7 @@ loop-again-2 c =
 
 -- src/tables.rt:240:1
 returns-2 : tie.Need-returns-2 Inv-loop μ-loop
-returns-2 c = 
+returns-2 c =
     let start = c .before .before in
     let head = c .before .loop in
     sym

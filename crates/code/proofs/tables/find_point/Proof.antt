@@ -32,7 +32,7 @@ shared-slice-read-if1 c = search needs
 
 -- src/tables.rt:268:13
 returns : tie.Need-returns Inv-loop μ-loop
-returns c = 
+returns c =
     let head = c .before .before .before in
     sym
     (ap foundAt
@@ -55,7 +55,7 @@ loop-again c = (search needs, below-more _ _ (c .before .before .before .loop .i
 
 -- src/tables.rt:262:1
 returns-2 : tie.Need-returns-2 Inv-loop μ-loop
-returns-2 c = 
+returns-2 c =
     let start = c .before .before in
     sym
     (ap foundAt

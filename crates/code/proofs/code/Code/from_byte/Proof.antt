@@ -27,7 +27,7 @@ enum-known-i c = search needs
 
 -- src/read.rt:70:29
 at-requires : tie.Need-at-requires
-at-requires c κs = 
+at-requires c κs =
     let place = position (c .before .before .before .before .before .args .byte) (map bytesOf codeEntries) in
     first-inside (c .before .before .before .before .before .args .byte) (map bytesOf codeEntries) _
     (found-some place _ (sym (c .before .before .before .find-bytes .ensures) ∙ c .before .i .given .1))
@@ -38,7 +38,7 @@ enum-told c = search needs
 
 -- src/read.rt:64:5
 returns : tie.Need-returns
-returns c = 
+returns c =
     let b = c .before .before .before .before .before .before .args .byte in
     c .at .ensures
     ∙ sym
@@ -48,7 +48,7 @@ returns c =
 
 -- src/read.rt:64:5
 returns-2 : tie.Need-returns-2
-returns-2 c = 
+returns-2 c =
     let b = c .before .before .before .before .args .byte in
     sym (ap (codeOr b) (found-none (position b (map bytesOf codeEntries)) (sym (c .before .before .find-bytes .ensures) ∙ c .enum-told .given .1)))
     ∙ found-single b (c .before .before .before .before .pre)

@@ -33,7 +33,7 @@ enum-known-entry c = search needs
 
 -- src/character.rt:95:48
 at-requires : tie.Need-at-requires
-at-requires c κs = 
+at-requires c κs =
     let x = c .before .before .before .before .before .before .args .c in
     first-inside x (map pointOf codeEntries) _
     (found-some (position x (map pointOf codeEntries)) _ (sym (c .before .before .before .find-point .ensures) ∙ c .before .entry .given .1))
@@ -48,14 +48,14 @@ symbol-from-char-requires c κs = search needs
 
 -- src/character.rt:87:5
 returns-2 : tie.Need-returns-2
-returns-2 c = 
+returns-2 c =
     let x = c .before .before .before .before .before .before .before .args .c in
     let place = found-some (position x (map pointOf codeEntries)) _ (sym (c .before .before .before .before .find-point .ensures) ∙ c .before .before .entry .given .1) in
     ap answer (c .at .ensures) ∙ found-letter x (c .before .before .before .before .before .before .before .args .channel) _ (c .before .before .before .before .before .before .if1 .left) place
 
 -- src/character.rt:87:5
 returns-3 : tie.Need-returns-3
-returns-3 c = 
+returns-3 c =
     let x = c .before .before .before .before .before .before .args .c in
     let place = found-none (position x (map pointOf codeEntries)) (sym (c .before .before .before .find-point .ensures) ∙ c .before .enum-told .given .1) in
     c .symbol-from-char .ensures ∙ found-no-letter x (c .before .before .before .before .before .before .args .channel) (c .before .before .before .before .before .if1 .left) place

@@ -49,32 +49,34 @@ from-byte-requires-2 c κs = search needs
 
 -- src/read.rt:42:5
 returns-3 : tie.Need-returns-3
-returns-3 c = 
-    simp
-    (← c .before .before .before .before .before .before .before .check-odd-parity .ensures,
-    not-false (c .before .before .before .before .before .before .before .check-odd-parity .result) (c .before .before .before .before .before .before .if1 .left),
-    ← c .before .before .before .before .before .check-odd-parity2 .ensures,
-    not-false (c .before .before .before .before .before .check-odd-parity2 .result) (c .before .before .before .before .if2 .left),
-    ← c .before .before .before .strip-parity .ensures,
-    ← c .before .before .strip-parity2 .ensures,
-    ← in-row-one (c .before .before .before .strip-parity .result) (omega (arith, c .before .before .before .strip-parity .ensures)),
-    eq-eqb _ _ (c .before .if3 .taken),
-    c .parse .ensures)
+returns-3 c =
+    simp (
+      ← c .before .before .before .before .before .before .before .check-odd-parity .ensures,
+      not-false (c .before .before .before .before .before .before .before .check-odd-parity .result) (c .before .before .before .before .before .before .if1 .left),
+      ← c .before .before .before .before .before .check-odd-parity2 .ensures,
+      not-false (c .before .before .before .before .before .check-odd-parity2 .result) (c .before .before .before .before .if2 .left),
+      ← c .before .before .before .strip-parity .ensures,
+      ← c .before .before .strip-parity2 .ensures,
+      ← in-row-one (c .before .before .before .strip-parity .result) (omega (arith, c .before .before .before .strip-parity .ensures)),
+      eq-eqb _ _ (c .before .if3 .taken),
+      c .parse .ensures,
+    )
 
 -- src/read.rt:42:5
 returns-4 : tie.Need-returns-4
-returns-4 c = 
-    simp
-    (← c .before .before .before .before .before .before .before .before .check-odd-parity .ensures,
-    not-false (c .before .before .before .before .before .before .before .before .check-odd-parity .result) (c .before .before .before .before .before .before .before .if1 .left),
-    ← c .before .before .before .before .before .before .check-odd-parity2 .ensures,
-    not-false (c .before .before .before .before .before .before .check-odd-parity2 .result) (c .before .before .before .before .before .if2 .left),
-    ← c .before .before .before .before .strip-parity .ensures,
-    ← c .before .before .before .strip-parity2 .ensures,
-    ← in-row-one (c .before .before .before .before .strip-parity .result) (omega (arith, c .before .before .before .before .strip-parity .ensures)),
-    ne-eqb _ _ (c .before .before .if3 .left),
-    c .before .from-byte .ensures,
-    c .from-byte2 .ensures)
+returns-4 c =
+    simp (
+      ← c .before .before .before .before .before .before .before .before .check-odd-parity .ensures,
+      not-false (c .before .before .before .before .before .before .before .before .check-odd-parity .result) (c .before .before .before .before .before .before .before .if1 .left),
+      ← c .before .before .before .before .before .before .check-odd-parity2 .ensures,
+      not-false (c .before .before .before .before .before .before .check-odd-parity2 .result) (c .before .before .before .before .before .if2 .left),
+      ← c .before .before .before .before .strip-parity .ensures,
+      ← c .before .before .before .strip-parity2 .ensures,
+      ← in-row-one (c .before .before .before .before .strip-parity .result) (omega (arith, c .before .before .before .before .strip-parity .ensures)),
+      ne-eqb _ _ (c .before .before .if3 .left),
+      c .before .from-byte .ensures,
+      c .from-byte2 .ensures,
+    )
 
 pub from-data-spec : {M : Type 1} → statement M
 from-data-spec =

@@ -26,7 +26,7 @@ enum-known-entry c = search needs
 
 -- src/character.rt:110:26
 at-requires : tie.Need-at-requires
-at-requires c κs = 
+at-requires c κs =
     let x = c .before .before .before .before .before .args .c in
     first-inside x (map pointOf controlEntries) _
     (found-some (position x (map pointOf controlEntries)) _ (sym (c .before .before .before .find-point .ensures) ∙ c .before .entry .given .1))
@@ -37,14 +37,14 @@ enum-told c = search needs
 
 -- src/character.rt:101:5
 returns : tie.Need-returns
-returns c = 
+returns c =
     let x = c .before .before .before .before .before .before .args .c in
     let place = found-some (position x (map pointOf controlEntries)) _ (sym (c .before .before .before .before .find-point .ensures) ∙ c .before .before .entry .given .1) in
     found-symbol x (c .before .before .before .before .before .before .args .channel) _ (c .at .result) (c .before .before .before .before .before .before .pre) place (c .at .ensures)
 
 -- src/character.rt:101:5
 returns-2 : tie.Need-returns-2
-returns-2 c = 
+returns-2 c =
     let x = c .before .before .before .before .args .c in
     let place = found-none (position x (map pointOf controlEntries)) (sym (c .before .before .find-point .ensures) ∙ c .enum-told .given .1) in
     found-no-symbol x (c .before .before .before .before .args .channel) (c .before .before .before .before .pre) place

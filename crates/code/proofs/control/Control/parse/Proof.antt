@@ -59,7 +59,7 @@ enum-known-i c = search needs
 
 -- src/read.rt:151:41
 at-requires-2 : tie.Need-at-requires-2
-at-requires-2 c κs = 
+at-requires-2 c κs =
     let place = position (c .before .before .before .before .before .before .before .args .prefix * 256 + c .before .before .before .before .before .before .before .args .second) (map bytesOf controlEntries) in
     first-inside (c .before .before .before .before .before .before .before .args .prefix * 256 + c .before .before .before .before .before .before .before .args .second) (map bytesOf controlEntries) _
     (found-some place _ (sym (c .before .before .before .find-bytes .ensures) ∙ c .before .i .given .1))
@@ -70,24 +70,26 @@ enum-told c = search needs
 
 -- src/read.rt:138:5
 returns-3 : tie.Need-returns-3
-returns-3 c = 
+returns-3 c =
     let place = position (c .before .before .before .before .before .before .before .before .args .prefix * 256 + c .before .before .before .before .before .before .before .before .args .second) (map bytesOf controlEntries) in
-    simp
-    (← decided-is _ _ (c .before .before .before .before .before .before .before .before .pre .0) (c .before .before .before .before .before .before .before .before .pre .1) (c .before .before .before .before .before .before .before .before .pre .2),
-    lt-leb _ _ (c .before .before .before .before .before .before .before .if1 .left),
-    ne-eqb _ _ (c .before .before .before .before .before .before .if2 .left),
-    found-some place _ (sym (c .before .before .before .before .find-bytes .ensures) ∙ c .before .before .i .given .1),
-    c .at2 .ensures)
+    simp (
+      ← decided-is _ _ (c .before .before .before .before .before .before .before .before .pre .0) (c .before .before .before .before .before .before .before .before .pre .1) (c .before .before .before .before .before .before .before .before .pre .2),
+      lt-leb _ _ (c .before .before .before .before .before .before .before .if1 .left),
+      ne-eqb _ _ (c .before .before .before .before .before .before .if2 .left),
+      found-some place _ (sym (c .before .before .before .before .find-bytes .ensures) ∙ c .before .before .i .given .1),
+      c .at2 .ensures,
+    )
 
 -- src/read.rt:138:5
 returns-4 : tie.Need-returns-4
-returns-4 c = 
+returns-4 c =
     let place = position (c .before .before .before .before .before .before .args .prefix * 256 + c .before .before .before .before .before .before .args .second) (map bytesOf controlEntries) in
-    simp
-    (← decided-is _ _ (c .before .before .before .before .before .before .pre .0) (c .before .before .before .before .before .before .pre .1) (c .before .before .before .before .before .before .pre .2),
-    lt-leb _ _ (c .before .before .before .before .before .if1 .left),
-    ne-eqb _ _ (c .before .before .before .before .if2 .left),
-    found-none place (sym (c .before .before .find-bytes .ensures) ∙ c .enum-told .given .1))
+    simp (
+      ← decided-is _ _ (c .before .before .before .before .before .before .pre .0) (c .before .before .before .before .before .before .pre .1) (c .before .before .before .before .before .before .pre .2),
+      lt-leb _ _ (c .before .before .before .before .before .if1 .left),
+      ne-eqb _ _ (c .before .before .before .before .if2 .left),
+      found-none place (sym (c .before .before .find-bytes .ensures) ∙ c .enum-told .given .1),
+    )
 
 pub parse-spec : {M : Type 1} → statement M
 parse-spec =

@@ -24,7 +24,7 @@ without-field-requires c κs = search needs
 
 -- src/read.rt:97:29
 parse-requires : tie.Need-parse-requires
-parse-requires c κs = 
+parse-requires c κs =
     let a = c .before .before .args .first in
     let b = c .before .before .args .second in
     let small = without-field-between (a % 8 + 16) b (omega arith) (omega arith) in
@@ -41,7 +41,7 @@ enum-told c = search needs
 
 -- src/read.rt:90:5
 returns : tie.Need-returns
-returns c = 
+returns c =
     let begun = c .before .before .before .before .before .before in
     rw (c .before .control .given .1) at
     (parsed (begun .args .first) (begun .args .second) _ _ _
@@ -53,7 +53,7 @@ returns c =
 
 -- src/read.rt:90:5
 returns-2 : tie.Need-returns-2
-returns-2 c = 
+returns-2 c =
     let begun = c .before .before .before .before .before in
     rw (c .enum-told .given .1) at
     (parsed (begun .args .first) (begun .args .second) _ _ _

@@ -36,7 +36,7 @@ from-entry-requires c κs = search needs
 
 -- src/character.rt:50:5
 returns : tie.Need-returns
-returns c = 
+returns c =
     let place = letterPlace (c .before .before .args .self) in
     simp (c .from-entry .ensures, c .before .place .ensures, letter-point place (letter-small (c .before .before .args .self)))
 

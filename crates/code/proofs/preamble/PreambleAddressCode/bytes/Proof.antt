@@ -47,14 +47,14 @@ add-t32 c = omega (arith, style-back (c .before .before .before .before .before 
 
 -- src/write.rt:185:5
 returns : tie.Need-returns
-returns c = 
+returns c =
     let p = c .before .before .before .before .before .args .self in
     rw (c .before .if1 .taken, c .before .before .style .ensures)
     (underlined-row (p .row) (styleOf (p .ty)) (c .before .before .before .before .before .pre) (style-back (c .before .before .before .before .before .args .self .ty) .0))
 
 -- src/write.rt:185:5
 returns-2 : tie.Need-returns-2
-returns-2 c = 
+returns-2 c =
     let p = c .before .before .before .before .before .args .self in
     rw (c .before .if1 .left, c .before .before .style .ensures)
     (plain-row (p .row) (styleOf (p .ty)) (c .before .before .before .before .before .pre) (style-back (c .before .before .before .before .before .args .self .ty) .0))

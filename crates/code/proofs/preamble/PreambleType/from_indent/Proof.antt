@@ -30,19 +30,19 @@ at-requires c κs = search needs
 
 -- src/preamble.rt:42:17
 returns : tie.Need-returns
-returns c = 
+returns c =
     let n = c .before .before .before .args .indent in
     simp (← by-tests n (c .before .before .before .fits .indent .fits), eq-eqb _ _ (c .before .before .if1 .taken), le-leb _ _ (c .before .if2 .taken), c .at .ensures)
 
 -- src/preamble.rt:37:5
 returns-2 : tie.Need-returns-2
-returns-2 c = 
+returns-2 c =
     let n = c .before .before .args .indent in
     simp (← by-tests n (c .before .before .fits .indent .fits), eq-eqb _ _ (c .before .if1 .taken), lt-leb _ _ (c .if2 .left))
 
 -- src/preamble.rt:37:5
 returns-3 : tie.Need-returns-3
-returns-3 c = 
+returns-3 c =
     let n = c .before .args .indent in
     simp (← by-tests n (c .before .fits .indent .fits), ne-eqb _ _ (c .if1 .left))
 

@@ -26,18 +26,19 @@ number-requires c κs = search needs
 
 -- src/write.rt:179:22
 add-t6 : tie.Need-add-t6
-add-t6 c = 
+add-t6 c =
     let s = c .before .before .before .args .self in
     omega (arith, ap second (c .before .before .base .ensures), base-small (s .row), column-back (s .column) .0)
 
 -- src/write.rt:173:5
 returns : tie.Need-returns
-returns c = 
+returns c =
     let s = c .before .before .before .args .self in
-    simp
-    (c .before .before .base .ensures,
-    c .before .number .ensures,
-    symbol-plus (s .row) (columnNumber (s .column)) (column-back (s .column) .0))
+    simp (
+      c .before .before .base .ensures,
+      c .before .number .ensures,
+      symbol-plus (s .row) (columnNumber (s .column)) (column-back (s .column) .0),
+    )
 
 pub bytes-spec : {M : Type 1} → statement M
 bytes-spec = tie.close (tie.spec base-requires number-requires add-t6 returns)

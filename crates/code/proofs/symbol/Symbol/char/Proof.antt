@@ -32,7 +32,7 @@ from-entry-requires c κs = search needs
 
 -- src/character.rt:61:5
 returns : tie.Need-returns
-returns c = 
+returns c =
     let place = symbolPlace (c .before .before .args .self) in
     simp (c .from-entry .ensures, c .before .place .ensures, symbol-point place (symbol-small (c .before .before .args .self)))
 

@@ -1,0 +1,94 @@
+-- Every pair of odd parity, read and written again, gives its own two bytes; and of the 65,536 pairs 16,384 pass.
+-- Assumes nothing.
+use mathlib.Core.Bool.{Bool, true, false, cond, _&&_, false≢true}
+use mathlib.Core.Path.{_≡_, refl, ap, sym, _∙_}
+use Prim.Native.Nat.{ℕ, zero, suc, _+_, _%_, _≤_, _<_}
+use native.Mathlib.Omega.{arith}
+use borrow.Author.Tests.{leb-true}
+use lib.Count.{ones, onesIn}
+use lib.Dec.{leb}
+use Rattle.code.proofs.Agree.{agree, agree-grid}
+use Rattle.code.specs.Outcome.{Outcome, answer, refused}
+use Rattle.code.specs.Parity.{isOdd, stripped, withParity}
+use Rattle.code.specs.Read.{codesOf, commandOf, isCommand, readPair, single}
+use Rattle.code.specs.Write.{asSingle, pair, together, writeCode, writeTwo}
+use Rattle.code.specs.declared.code.Code.{Code}
+use Rattle.code.specs.declared.code.Code.the-variants as code
+use Rattle.code.specs.declared.pair.Pair.{Pair}
+
+-- a byte of odd parity is its own data with parity added
+kept : ℕ → ℕ
+kept b = cond (isOdd b) (withParity (stripped b)) b
+
+kept-is : (b : ℕ) → b < 256 → kept b ≡ b
+unfolding kept ones onesIn
+kept-is b less = agree kept (λ (x : ℕ). x) 256 refl b less
+
+pub parity-back : (b : ℕ) → b < 256 → isOdd b ≡ true → withParity (stripped b) ≡ b
+unfolding kept
+parity-back b less odd = sym (rw odd) ∙ kept-is b less
+
+-- all single bytes, and all commands, by computation
+pub single-again : (b : ℕ) → b < 128 → writeCode (single b) ≡ asSingle b
+unfolding ones onesIn
+single-again b less = agree (λ (x : ℕ). writeCode (single x)) asSingle 128 refl b less
+
+pub command-again : (a b : ℕ) → 16 ≤ a → a < 32 → b < 128 → writeCode (code.Control (commandOf a b)) ≡ answer (pair (withParity a) (withParity b), 2)
+unfolding ones onesIn
+command-again a b from below less =
+    agree-grid (λ (x y : ℕ). writeCode (code.Control (commandOf x y))) (λ (x y : ℕ). answer (pair (withParity x) (withParity y), 2)) 16 16 128 refl
+    a
+    b
+    from
+    below
+    less
+
+-- two stripped bytes
+both-true : (s t : Bool) → s && t ≡ true → (s ≡ true) × (t ≡ true)
+both-true true t e = (refl, e)
+both-true false t e = absurd (false≢true e)
+
+command-range : (a : ℕ) → isCommand a ≡ true → (16 ≤ a) × (a < 32)
+command-range a e =
+    let h = both-true (leb 0x10 a) (leb a 0x1F) e in
+    (leb-true 0x10 a (h .0), omega (arith, leb-true a 0x1F (h .1)))
+
+abbrev writeBoth : Code × Code → Outcome Pair
+writeBoth codes = writeTwo (codes .0) (codes .1)
+
+again : (t : Bool) (a b : ℕ) → a < 128 → b < 128 → isCommand a ≡ t → writeBoth (cond t (code.Control (commandOf a b), code.Nul) (single a, single b)) ≡ answer (pair (withParity a) (withParity b))
+again true a b la lb e =
+    let h = command-range a e in
+    ap (λ (o : Outcome (Pair × ℕ)). together o (writeCode code.Nul)) (command-again a b (h .0) (h .1) lb)
+again false a b la lb e = rw (single-again a la, single-again b lb)
+
+pub stripped-again : (a b : ℕ) → a < 128 → b < 128 → writeTwo (codesOf a b .0) (codesOf a b .1) ≡ answer (pair (withParity a) (withParity b))
+stripped-again a b la lb = again (isCommand a) a b la lb refl
+
+-- what was read is written again
+abbrev pub writtenAgain : Outcome (Code × Code) → Outcome Pair
+writtenAgain (answer codes) = writeTwo (codes .0) (codes .1)
+writtenAgain (refused n) = refused n
+
+abbrev pub passes : ℕ → ℕ → Bool
+passes a b = isOdd a && isOdd b
+
+pub read-then-write : (a b : ℕ) → a < 256 → b < 256 → passes a b ≡ true → writtenAgain (readPair a b) ≡ answer (pair a b)
+read-then-write a b la lb odd =
+    let h = both-true (isOdd a) (isOdd b) odd in
+    rw odd
+    (stripped-again (stripped a) (stripped b) (omega arith) (omega arith)
+    ∙ ap answer (rw (parity-back a la (h .0), parity-back b lb (h .1))))
+
+-- how many pass
+abbrev pub count : (ℕ → Bool) → ℕ → ℕ
+count f zero = 0
+count f (suc n) = cond (f n) 1 0 + count f n
+
+abbrev pub countPairs : (ℕ → ℕ → Bool) → ℕ → ℕ → ℕ
+countPairs f zero m = 0
+countPairs f (suc n) m = count (f n) m + countPairs f n m
+
+pub passing-pairs : countPairs passes 256 256 ≡ 16384
+unfolding ones onesIn
+passing-pairs = refl

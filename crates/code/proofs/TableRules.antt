@@ -1,0 +1,64 @@
+-- The rules of the tables, each once over its table: the bytes rise, so that no byte or pair stands twice; an entry's
+-- bytes are read as what stands there, and what stands there is written as its bytes; a character stands in one place.
+-- Assumes nothing.
+use mathlib.Core.Bool.{Bool, true, false, cond, not, _||_}
+use mathlib.Core.List.{map}
+use mathlib.Core.Option.{Option, none, some}
+use mathlib.Core.Path.{_≡_, refl}
+use Prim.Native.Nat.{ℕ, _/_, _%_, _<_}
+use lib.Count.{ones, onesIn}
+use lib.Dec.{eqb}
+use lib.ListN.{getD}
+use Rattle.code.proofs.Agree.{agree}
+use Rattle.code.proofs.Increasing.{increasing}
+use Rattle.code.specs.Characters.{standard, symbols}
+use Rattle.code.specs.Outcome.{Outcome, answer}
+use Rattle.code.specs.Position.{position}
+use Rattle.code.specs.Read.{meaning, rowPrefixes, single}
+use Rattle.code.specs.Tables.{bytesOf, codeAt, codeEntries, controlAt, controlEntries, Increasing}
+use Rattle.code.specs.Write.{asSingle, controlBytes, twoBytes, writeCode}
+use Rattle.code.specs.declared.control.Control.{Control}
+
+pub characters-rise : Increasing codeEntries
+characters-rise = increasing codeEntries tt
+
+pub controls-rise : Increasing controlEntries
+controls-rise = increasing controlEntries tt
+
+abbrev codeBytes : ℕ → ℕ
+codeBytes i = bytesOf (getD codeEntries i 0)
+
+abbrev entryBytes : ℕ → ℕ
+entryBytes i = bytesOf (getD controlEntries i 0)
+
+-- the table of characters, both ways
+pub entry-read : (i : ℕ) → i < 97 → single (codeBytes i) ≡ codeAt i
+entry-read i less = agree (λ (x : ℕ). single (codeBytes x)) codeAt 97 refl i less
+
+pub entry-written : (i : ℕ) → i < 97 → writeCode (codeAt i) ≡ asSingle (codeBytes i)
+unfolding ones onesIn
+entry-written i less = agree (λ (x : ℕ). writeCode (codeAt x)) (λ (x : ℕ). asSingle (codeBytes x)) 97 refl i less
+
+-- the control table, both ways
+pub control-read : (i : ℕ) → i < 99 → meaning (entryBytes i / 256) (entryBytes i % 256) ≡ some (controlAt i)
+control-read i less =
+    agree (λ (x : ℕ). meaning (entryBytes x / 256) (entryBytes x % 256)) (λ (x : ℕ). some (controlAt x)) 99 refl i less
+
+pub control-written : (i : ℕ) → i < 99 → controlBytes (controlAt i) ≡ answer (twoBytes (entryBytes i))
+control-written i less =
+    agree (λ (x : ℕ). controlBytes (controlAt x)) (λ (x : ℕ). answer (twoBytes (entryBytes x))) 99 refl i less
+
+-- each row's prefix is its own
+pub row-back : (row : ℕ) → row < 15 → position (getD rowPrefixes row 0) rowPrefixes ≡ some row
+row-back row less = agree (λ (x : ℕ). position (getD rowPrefixes x 0) rowPrefixes) (λ (x : ℕ). some x) 15 refl row less
+
+-- a character's first place is its only one
+pub letter-once : (n : ℕ) → n < 96 → position (getD standard n 0) standard ≡ some n
+letter-once n less = agree (λ (x : ℕ). position (getD standard x 0) standard) (λ (x : ℕ). some x) 96 refl n less
+
+pub symbol-once : (n : ℕ) → n < 80 → position (getD symbols n 0) symbols ≡ some n
+symbol-once n less = agree (λ (x : ℕ). position (getD symbols x 0) symbols) (λ (x : ℕ). some x) 80 refl n less
+
+-- and no symbol is a standard character
+pub symbol-apart : (n : ℕ) → n < 80 → position (getD symbols n 0) standard ≡ none
+symbol-apart n less = agree (λ (x : ℕ). position (getD symbols x 0) standard) (λ (x : ℕ). none) 80 refl n less

@@ -1,0 +1,80 @@
+-- What is known of a written pair, and all that the layers above know of one: both bytes have odd parity, the length is
+-- the code's, and the first stripped byte tells whether the pair is read as a command or as two single codes.
+-- Assumes nothing.
+use mathlib.Core.Bool.{Bool, true, false, cond}
+use mathlib.Core.Path.{_≡_, refl, subst}
+use Prim.Native.Nat.{ℕ, _+_, _<_}
+use native.Mathlib.Omega.{arith}
+use lib.Count.{ones, onesIn}
+use lib.Dec.{lit<, ltb}
+use Rattle.code.proofs.Agree.{agree}
+use Rattle.code.specs.Code.{byteLen}
+use Rattle.code.specs.Outcome.{Outcome, answer, refused}
+use Rattle.code.specs.Parity.{isOdd, stripped, withParity}
+use Rattle.code.specs.Read.{commandOf, isCommand, readPair, single}
+use Rattle.code.specs.Write.{asCommand, asSingle, controlBytes, writeCode}
+use Rattle.code.specs.declared.channel.Channel.{Channel}
+use Rattle.code.specs.declared.code.Code.{Code}
+use Rattle.code.specs.declared.code.Code.the-variants as code
+use Rattle.code.specs.declared.control.CodeField.{CodeField}
+use Rattle.code.specs.declared.pair.Pair.{Pair}
+
+-- a byte that may stand on the line
+pub record Sent (b : ℕ) : Type 0 where
+  pub odd : isOdd b ≡ true
+  pub small : b < 256
+
+parity-of-seven : (s : ℕ) → s < 128 → isOdd (cond (isOdd s) s (s + 128)) ≡ true
+unfolding ones onesIn
+parity-of-seven s less = agree (λ (x : ℕ). isOdd (cond (isOdd x) x (x + 128))) (λ (x : ℕ). true) 128 refl s less
+
+either-small : (t : Bool) (s : ℕ) → s < 128 → cond t s (s + 128) < 256
+either-small true s less = omega arith
+either-small false s less = omega arith
+
+-- parity added to any byte makes it odd
+pub with-parity : (b : ℕ) → Sent (withParity b)
+with-parity b =
+    let less : stripped b < 128 = omega arith in
+    record { odd = parity-of-seven (stripped b) less; small = either-small (isOdd (stripped b)) (stripped b) less }
+
+pub nul-sent : Sent 0x80
+unfolding ones onesIn
+nul-sent = record { odd = refl; small = lit< tt }
+
+pub record SentPair (p : Pair) : Type 0 where
+  pub first : Sent (p .0)
+  pub second : Sent (p .1)
+
+-- of an outcome: if it is an answer, the pair is fit to be sent and the length is n
+abbrev pub Good : ℕ → Outcome (Pair × ℕ) → Type 0
+Good n (answer x) = SentPair (x .0) × (x .1 ≡ n)
+Good n (refused k) = Unit
+
+good-command : (f : CodeField) (c : Channel) (o : Outcome Pair) → Good 2 (asCommand f c o)
+good-command f c (answer p) = (record { first = with-parity _; second = with-parity _ }, refl)
+good-command f c (refused n) = tt
+
+good-single : (b : ℕ) → Good 1 (asSingle b)
+good-single b = (record { first = with-parity b; second = nul-sent }, refl)
+
+good-unknown : (t : Bool) (b : ℕ) → Good 1 (cond t (asSingle b) (refused 2))
+good-unknown true b = good-single b
+good-unknown false b = tt
+
+good : (c : Code) → Good (byteLen c) (writeCode c)
+good code.Nul = good-single 0
+good (code.Control c) = good-command (c .field) (c .channel) (controlBytes (c .control))
+good (code.Letter l) = good-single _
+good (code.Unknown b) = good-unknown (ltb b 0x80) b
+
+-- a written code: odd parity in both bytes, and its own length
+pub written-is-sent : (c : Code) (p : Pair) (n : ℕ) → writeCode c ≡ answer (p, n) → SentPair p × (n ≡ byteLen c)
+written-is-sent c p n e = subst (Good (byteLen c)) e (good c)
+
+-- a pair of odd parity is read as a command exactly where its first stripped byte is 10 to 1F
+pub read-as-command : (a b : ℕ) → isOdd a ≡ true → isOdd b ≡ true → isCommand (stripped a) ≡ true → readPair a b ≡ answer (code.Control (commandOf (stripped a) (stripped b)), code.Nul)
+read-as-command a b oa ob e = rw (oa, ob, e)
+
+pub read-as-text : (a b : ℕ) → isOdd a ≡ true → isOdd b ≡ true → isCommand (stripped a) ≡ false → readPair a b ≡ answer (single (stripped a), single (stripped b))
+read-as-text a b oa ob e = rw (oa, ob, e)
