@@ -2,19 +2,17 @@
 -- carries into the first. The characters of the tables' entries.
 -- Assumes nothing.
 use mathlib.Core.Bool.{true}
-use mathlib.Core.List.{List, [], _∷_, _++_, map}
-use mathlib.Core.Option.{Option, none, some}
+use mathlib.Core.List.{List, map}
 use mathlib.Core.Path.{_≡_, refl, ap, sym, _∙_}
-use Prim.Native.Nat.{ℕ, zero, suc, _+_, _*_, _≤_, _<_, zero-le}
+use Prim.Native.Nat.{ℕ, _+_, _*_, _≤_, _<_, zero-le}
 use native.Mathlib.Nat.{add-assoc, add-zero}
 use native.Mathlib.Omega.{arith}
-use borrow.Author.Tests.{leb-true, ne-eqb}
+use borrow.Author.Tests.{leb-true}
 use lib.Dec.{leb, lit<}
-use lib.ListN.{getD, replicate}
+use lib.ListN.{getD}
 use Rattle.code.proofs.Agree.{agree, agree-grid}
 use Rattle.code.proofs.Numbers.{symbol-row-back}
 use Rattle.code.specs.Characters.{standard, symbols}
-use Rattle.code.specs.Position.{position, later}
 use Rattle.code.specs.Read.{rowPrefixes}
 use Rattle.code.specs.Symbol.{symbolRowNumber}
 use Rattle.code.specs.Tables.{codeEntries, controlEntries, pointOf}
@@ -59,26 +57,12 @@ prefix-small row inside = leb-true (prefixAt row .1) 96 (agree (λ (x : ℕ). le
 
 -- the code points of the entries are those of the text
 pub letter-point : (n : ℕ) → n < 96 → pointOf (getD codeEntries (n + 1) 0) ≡ getD standard n 0
+unfolding codeEntries standard
 letter-point n less = agree (λ (x : ℕ). pointOf (getD codeEntries (x + 1) 0)) (λ (x : ℕ). getD standard x 0) 96 refl n less
 
 pub symbol-point : (n : ℕ) → n < 80 → pointOf (getD controlEntries n 0) ≡ getD symbols n 0
+unfolding controlEntries symbols
 symbol-point n less = agree (λ (x : ℕ). pointOf (getD controlEntries x 0)) (λ (x : ℕ). getD symbols x 0) 80 refl n less
-
--- a character is found among the symbols alone, since the commands and tabs behind them have none
-none-in-zeros : (c n : ℕ) → (c ≡ 0 → ⊥) → position c (replicate n 0) ≡ none
-none-in-zeros c zero h = refl
-none-in-zeros c (suc n) h = rw (ne-eqb c 0 h) (ap later (none-in-zeros c n h))
-
-before-zeros : (c n : ℕ) (l : List ℕ) → (c ≡ 0 → ⊥) → position c (l ++ replicate n 0) ≡ position c l
-before-zeros c n [] h = none-in-zeros c n h
-before-zeros c n (y ∷ ys) h = simp (before-zeros c n ys h)
-
-pub symbol-place : (c : ℕ) → (c ≡ 0 → ⊥) → position c (map pointOf controlEntries) ≡ position c symbols
-symbol-place c h = before-zeros c 19 symbols h
-
--- a standard character's entry is one behind its place, since NUL comes first
-pub letter-entry : (c : ℕ) → (c ≡ 0 → ⊥) → position c (map pointOf codeEntries) ≡ later (position c standard)
-letter-entry c h = rw (ne-eqb c 0 h)
 
 -- a preamble's bytes, with and without the underline
 pub underlined-row : (row s : ℕ) → row < 15 → s < 16 → pair (prefixAt row .0) (prefixAt row .1 + 2 * s + 1) ≡ twoBytes (getD rowPrefixes row 0 + (2 * s + 1))

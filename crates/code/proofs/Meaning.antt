@@ -1,14 +1,13 @@
 -- What two bytes of a control code say, as the code decides it: the preambles by their first bytes' rows, the rest by
 -- the control table. One computation over all of them shows that it is what the text says.
 -- Assumes nothing.
+use Rattle.code.specs.Characters.{standard}
 use mathlib.Core.Bool.{Bool, true, false, cond, _&&_}
 use mathlib.Core.List.{map}
 use mathlib.Core.Option.{Option, none, some}
 use mathlib.Core.Path.{_≡_, refl}
 use Prim.Native.Nat.{ℕ, _+_, _*_, _-_, _/_, _%_, _≤_, _<_}
-use native.Mathlib.Decide.{decLt}
-use native.Mathlib.Omega.{arith}
-use borrow.Author.Tests.{le-leb, lt-leb, ltb-true, ne-eqb}
+use borrow.Author.Tests.{ltb-true}
 use lib.Dec.{eqb, leb, ltb, lit<, lit≤}
 use Rattle.code.proofs.Agree.{agree, agree-from, agree-grid}
 use Rattle.code.specs.MidRow.{midRowAt}
@@ -46,6 +45,7 @@ decided p b =
     (atEntry (position (p * 256 + b) (map bytesOf controlEntries))))
 
 pub decided-is : (p b : ℕ) → 16 ≤ p → p < 24 → b < 128 → decided p b ≡ meaning p b
+unfolding controlEntries
 decided-is p b from below less = agree-grid decided meaning 16 8 128 refl p b from below less
 
 -- 10 to 1F, by the upper digit
@@ -53,12 +53,8 @@ pub in-row-one : (a : ℕ) → a < 128 → eqb (a / 16) 1 ≡ isCommand a
 in-row-one a less = agree (λ (x : ℕ). eqb (x / 16) 1) isCommand 128 refl a less
 
 -- 20 to 2F, by the upper digit
-pub in-row-two : (b : ℕ) → eqb (b / 16) 2 ≡ within 0x20 0x2F b
-in-row-two b =
-    elim (decLt b 256) [
-      | yes less ↦ agree (λ (x : ℕ). eqb (x / 16) 2) (within 0x20 0x2F) 256 refl b less
-      | no more ↦ simp (ne-eqb (b / 16) 2 (λ (e : b / 16 ≡ 2). omega arith), le-leb 0x20 b (omega arith), lt-leb b 0x2F (omega arith))
-    ]
+pub in-row-two : (b : ℕ) → b < 256 → eqb (b / 16) 2 ≡ within 0x20 0x2F b
+in-row-two b less = agree (λ (x : ℕ). eqb (x / 16) 2) (within 0x20 0x2F) 256 refl b less
 
 -- the channel bit goes by the remainder
 pub without-channel : (a : ℕ) → 16 ≤ a → a < 32 → a % 8 + 16 ≡ withoutChannel a
@@ -94,6 +90,7 @@ codeOr b none = code.Unknown b
 codeOr b (some i) = codeAt i
 
 pub found-single : (b : ℕ) → b < 128 → codeOr b (position b (map bytesOf codeEntries)) ≡ single b
+unfolding codeEntries standard
 found-single b less = agree (λ (x : ℕ). codeOr x (position x (map bytesOf codeEntries))) single 128 refl b less
 
 -- a row that has a second half leaves room for it

@@ -30,11 +30,11 @@ parity-back b less odd = sym (rw odd) ∙ kept-is b less
 
 -- all single bytes, and all commands, by computation
 pub single-again : (b : ℕ) → b < 128 → writeCode (single b) ≡ asSingle b
-unfolding ones onesIn
+unfolding ones onesIn writeCode
 single-again b less = agree (λ (x : ℕ). writeCode (single x)) asSingle 128 refl b less
 
 pub command-again : (a b : ℕ) → 16 ≤ a → a < 32 → b < 128 → writeCode (code.Control (commandOf a b)) ≡ answer (pair (withParity a) (withParity b), 2)
-unfolding ones onesIn
+unfolding ones onesIn writeCode
 command-again a b from below less =
     agree-grid (λ (x y : ℕ). writeCode (code.Control (commandOf x y))) (λ (x y : ℕ). answer (pair (withParity x) (withParity y), 2)) 16 16 128 refl
     a
@@ -57,6 +57,7 @@ abbrev writeBoth : Code × Code → Outcome Pair
 writeBoth codes = writeTwo (codes .0) (codes .1)
 
 again : (t : Bool) (a b : ℕ) → a < 128 → b < 128 → isCommand a ≡ t → writeBoth (cond t (code.Control (commandOf a b), code.Nul) (single a, single b)) ≡ answer (pair (withParity a) (withParity b))
+unfolding writeCode
 again true a b la lb e =
     let h = command-range a e in
     ap (λ (o : Outcome (Pair × ℕ)). together o (writeCode code.Nul)) (command-again a b (h .0) (h .1) lb)
@@ -74,6 +75,7 @@ abbrev pub passes : ℕ → ℕ → Bool
 passes a b = isOdd a && isOdd b
 
 pub read-then-write : (a b : ℕ) → a < 256 → b < 256 → passes a b ≡ true → writtenAgain (readPair a b) ≡ answer (pair a b)
+unfolding readPair
 read-then-write a b la lb odd =
     let h = both-true (isOdd a) (isOdd b) odd in
     rw odd

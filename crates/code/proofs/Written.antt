@@ -63,6 +63,7 @@ good-unknown true b = good-single b
 good-unknown false b = tt
 
 good : (c : Code) → Good (byteLen c) (writeCode c)
+unfolding writeCode
 good code.Nul = good-single 0
 good (code.Control c) = good-command (c .field) (c .channel) (controlBytes (c .control))
 good (code.Letter l) = good-single _
@@ -74,7 +75,9 @@ written-is-sent c p n e = subst (Good (byteLen c)) e (good c)
 
 -- a pair of odd parity is read as a command exactly where its first stripped byte is 10 to 1F
 pub read-as-command : (a b : ℕ) → isOdd a ≡ true → isOdd b ≡ true → isCommand (stripped a) ≡ true → readPair a b ≡ answer (code.Control (commandOf (stripped a) (stripped b)), code.Nul)
+unfolding readPair
 read-as-command a b oa ob e = rw (oa, ob, e)
 
 pub read-as-text : (a b : ℕ) → isOdd a ≡ true → isOdd b ≡ true → isCommand (stripped a) ≡ false → readPair a b ≡ answer (single (stripped a), single (stripped b))
+unfolding readPair
 read-as-text a b oa ob e = rw (oa, ob, e)

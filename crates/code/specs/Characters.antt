@@ -16,7 +16,7 @@ points text.[] = []
 points (text._∷_ c s) = code c ∷ points s
 
 -- the standard characters, from 0x20 to 0x7F
-abbrev pub standard : List ℕ
+unfoldable pub standard : List ℕ
 standard =
     points " !\"#$%&’()á+,-./" ++ points "0123456789:;<=>?" ++ points "@ABCDEFGHIJKLMNO" ++ points "PQRSTUVWXYZ[é]íó"
     ++ points "úabcdefghijklmno" ++ points "pqrstuvwxyzç÷Ññ█"
@@ -38,7 +38,7 @@ portuguese = points "ÃãÍÌìÒòÕõ{}\\^_|~"
 abbrev pub german : List ℕ
 german = points "ÄäÖöß¥¤│ÅåØø┌┐└┘"
 
-abbrev pub symbols : List ℕ
+unfoldable pub symbols : List ℕ
 symbols = special ++ spanish ++ french ++ portuguese ++ german
 
 -- the code point at a place, or none

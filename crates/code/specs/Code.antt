@@ -82,7 +82,7 @@ letterCode none other = other
 letterCode (some i) other = answer (code.Letter (letterAt i))
 
 -- 0 is where there is no character, and no character itself
-abbrev pub fromChar : ℕ → Channel → Outcome Code
+unfoldable pub fromChar : ℕ → Channel → Outcome Code
 fromChar c ch = cond (eqb c 0) (refused 5) (letterCode (position c standard) (symbolCode ch (position c symbols)))
 
 abbrev pub fromCharOutcome : FromChar → Outcome Code

@@ -104,7 +104,7 @@ abbrev pub codesOf : ℕ → ℕ → Code × Code
 codesOf a b = cond (isCommand a) (code.Control (commandOf a b), code.Nul) (single a, single b)
 
 -- the codes of a received pair; 1: a byte with an even count of ones
-abbrev pub readPair : ℕ → ℕ → Outcome (Code × Code)
+unfoldable pub readPair : ℕ → ℕ → Outcome (Code × Code)
 readPair a b = cond (isOdd a && isOdd b) (answer (codesOf (stripped a) (stripped b))) (refused 1)
 
 abbrev pub fromDataOutcome : FromData → Outcome (Code × Code)

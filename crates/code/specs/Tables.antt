@@ -36,11 +36,11 @@ entries bytes [] = []
 entries bytes (p ∷ ps) = (bytes * 65536 + p) ∷ entries (suc bytes) ps
 
 -- NUL, then 0x20 to 0x7F
-abbrev pub codeEntries : List ℕ
+unfoldable pub codeEntries : List ℕ
 codeEntries = 0 ∷ entries 0x20 standard
 
 -- the symbols, the commands 14 20 to 14 2F and the tabs 17 21 to 17 23
-abbrev pub controlEntries : List ℕ
+unfoldable pub controlEntries : List ℕ
 controlEntries =
     entries 0x1130 special ++ entries 0x1220 spanish ++ entries 0x1230 french ++ entries 0x1320 portuguese
     ++ entries 0x1330 german ++ entries 0x1420 (replicate 16 0) ++ entries 0x1721 (replicate 3 0)

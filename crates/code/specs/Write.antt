@@ -96,7 +96,7 @@ asCommand f c (refused n) = refused n
 abbrev pub asSingle : ℕ → Outcome (Pair × ℕ)
 asSingle b = answer (pair (withParity b) 0x80, 1)
 
-abbrev pub writeCode : Code → Outcome (Pair × ℕ)
+unfoldable pub writeCode : Code → Outcome (Pair × ℕ)
 writeCode code.Nul = asSingle 0
 writeCode (code.Control c) = asCommand (c .field) (c .channel) (controlBytes (c .control))
 writeCode (code.Letter l) = asSingle (0x20 + letterPlace l)

@@ -3,6 +3,7 @@ ghost use mathlib.Core.Path.{_≡_};
 ghost use Prim.Native.Nat.{_<_};
 ghost use Rattle.code.specs.Control.{commandAt, commandNumber, tabAt, tabNumber, tabOffset, tabOffsetOutcome};
 ghost use Rattle.code.specs.Control.{controlCode, channelIn, fieldIn, controlIn};
+ghost use Rattle.code.specs.Read.{within};
 use crate::channel::Channel;
 use crate::channel::Field;
 use crate::midrow::MidRow;
@@ -78,6 +79,13 @@ pub struct ControlCode {
     pub field: CodeField,
     pub channel: Channel,
     pub control: Control,
+}
+
+// Whether a second byte is one of 20 to 2F, before which 14 and 15 name a field.
+pub(crate) fn names_field(second: u8) -> bool
+    ensures { λ r. ⌜ r ≡ within 0x20 0x2F second ⌝ }
+{
+    second / 16 == 2
 }
 
 impl Command {

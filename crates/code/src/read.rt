@@ -11,6 +11,7 @@ use crate::control::Command;
 use crate::control::Control;
 use crate::control::ControlCode;
 use crate::control::Tab;
+use crate::control::names_field;
 use crate::letter::Letter;
 use crate::midrow::MidRow;
 use crate::pair::Pair;
@@ -108,7 +109,7 @@ impl ControlCode {
 pub(crate) fn field_of(prefix: u8, second: u8) -> CodeField
     ensures { λ r. ⌜ r ≡ fieldOf prefix second ⌝ }
 {
-    if second / 16 == 2 {
+    if names_field(second) {
         match prefix {
             0x14 => CodeField::Of(Field::ONE),
             0x15 => CodeField::Of(Field::TWO),
@@ -123,7 +124,7 @@ pub(crate) fn field_of(prefix: u8, second: u8) -> CodeField
 pub(crate) fn without_field(prefix: u8, second: u8) -> u8
     ensures { λ r. ⌜ r ≡ withoutField prefix second ⌝ }
 {
-    if second / 16 == 2 {
+    if names_field(second) {
         if prefix == 0x15 {
             return 0x14;
         }

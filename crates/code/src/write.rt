@@ -8,6 +8,7 @@ use crate::code::Code;
 use crate::control::CodeField;
 use crate::control::Control;
 use crate::control::ControlCode;
+use crate::control::names_field;
 use crate::midrow::MidRow;
 use crate::pair::Pair;
 use crate::parity::add_parity;
@@ -72,7 +73,9 @@ pub(crate) fn on_line(field: CodeField, channel: Channel, bytes: Pair) -> Pair
 {
     let first = with_channel(channel, with_field(field, bytes));
     let second = bytes.1;
-    Pair(add_parity(first), add_parity(second))
+    let sent0 = add_parity(first);
+    let sent1 = add_parity(second);
+    Pair(sent0, sent1)
 }
 
 // The first byte for a field: 15 for 14 before 20 to 2F on field two.
@@ -87,7 +90,7 @@ pub(crate) fn with_field(field: CodeField, bytes: Pair) -> u8
                 return first;
             }
             if first == 0x14 {
-                if second / 16 == 2 {
+                if names_field(second) {
                     return 0x15;
                 }
             }

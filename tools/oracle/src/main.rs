@@ -4,8 +4,7 @@
 //!     oracle make SET QUERIES ANSWERS      writes a set's queries and the crate's answers
 //!     oracle compare QUERIES ANSWERS GOT   compares what `replay` wrote with the crate's answers
 //!
-//! A layer above the code layer adds its queries in a module like `code`, their lengths to the list
-//! in `transcript`, and its sets to `SETS`.
+//! A layer above the code layer adds its queries in a module like `code`, and its sets to `SETS`.
 
 mod code;
 mod code_sets;

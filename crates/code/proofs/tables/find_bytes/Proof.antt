@@ -1,17 +1,16 @@
-use borrow.Author.Needs.{needs}
-use lib.ListN.{length, getD}
-use mathlib.Core.Path.{_≡_, ap, sym}
+-- `code::tables::find_bytes` meets its contract. The invariant: what is sought stands neither below `low` nor from `high` on. The measure is what is left between them.
+-- Assumes nothing.
 use Prim.Native.Nat.{_+_, _-_, _/_}
+use borrow.Author.Needs.{needs}
+use denote.Ref.{now}
+use mathlib.Core.Path.{ap, sym}
 use native.Mathlib.Nat.{not-suc-le-zero}
 use native.Mathlib.Omega.{arith}
-use denote.Ref.{now}
 use Rattle.code.proofs.First.{first-at, first-none}
 use Rattle.code.proofs.Increasing.{Narrowed, look-above, look-below, nowhere}
 use Rattle.code.specs.Tables.{foundAt, bytesOf}
 use Rattle.code.proofs.tables.find_bytes.Statement.{statement}
 use Rattle.code.proofs.tables.find_bytes.Tie as tie
-use Rattle.code.proofs.tables.find_bytes.Reads as reads
-use Rattle.code.proofs.tables.find_bytes.Lts as lts
 
 abbrev Inv-loop : tie.InvT-loop
 Inv-loop table bytes low₀ high₀ low high = Narrowed table bytes low high
@@ -19,27 +18,21 @@ Inv-loop table bytes low₀ high₀ low high = Narrowed table bytes low high
 abbrev μ-loop : tie.MeasureT-loop
 μ-loop table bytes low₀ high₀ low high = high - low
 
--- src/tables.rt:246:5
 loop-holds : tie.Need-loop-holds Inv-loop μ-loop
 loop-holds c = record { order = search needs; inside = search needs; below = λ k less. absurd (not-suc-le-zero less); above = λ k from less. omega arith }
 
--- src/tables.rt:247:29
 sub-middle : tie.Need-sub-middle Inv-loop μ-loop
 sub-middle c = omega arith
 
--- src/tables.rt:247:22
 add-middle : tie.Need-add-middle Inv-loop μ-loop
 add-middle c = omega arith
 
--- src/tables.rt:248:20
 mul-here : tie.Need-mul-here Inv-loop μ-loop
 mul-here c = omega arith
 
--- src/tables.rt:248:20
 shared-slice-read-here : tie.Need-shared-slice-read-here Inv-loop μ-loop
 shared-slice-read-here c = omega arith
 
--- src/tables.rt:250:13
 returns : tie.Need-returns Inv-loop μ-loop
 returns c =
     let head = c .before .before .before .loop in
@@ -52,15 +45,12 @@ returns c =
     (c .if1 .taken)
     (λ k less here. omega (arith, start .pre k m less (omega (arith, head .inv .inside)), c .if1 .taken))))
 
--- src/tables.rt:253:19
 add-low : tie.Need-add-low Inv-loop μ-loop
 add-low c = omega arith
 
--- src/tables.rt:246:5
 loop-less : tie.Need-loop-less Inv-loop μ-loop
 loop-less c = omega arith
 
--- src/tables.rt:246:5
 loop-again : tie.Need-loop-again Inv-loop μ-loop
 loop-again c =
     let head = c .before .before .before .before .loop in
@@ -71,11 +61,9 @@ loop-again c =
     (omega arith)
     (c .if2 .taken)
 
--- src/tables.rt:246:5
 loop-less-2 : tie.Need-loop-less-2 Inv-loop μ-loop
 loop-less-2 c = omega arith
 
--- src/tables.rt:246:5
 loop-again-2 : tie.Need-loop-again-2 Inv-loop μ-loop
 loop-again-2 c =
     let head = c .before .before .before .before .loop in
@@ -87,7 +75,6 @@ loop-again-2 c =
     (omega arith)
     (omega (arith, c .if2 .left, c .before .if1 .left))
 
--- src/tables.rt:240:1
 returns-2 : tie.Need-returns-2 Inv-loop μ-loop
 returns-2 c =
     let start = c .before .before in

@@ -1,16 +1,16 @@
+-- `code::tables::find_point` meets its contract. The invariant: no entry that was passed has the code point. The measure is what is left of the table.
+-- Assumes nothing.
+use Prim.Native.Nat.{ℕ, _≤_, _<_, _-_}
 use borrow.Author.Count.{below-more}
 use borrow.Author.Needs.{needs}
+use denote.Ref.{now}
 use lib.ListN.{length, getD}
 use mathlib.Core.Path.{_≡_, ap, sym}
-use Prim.Native.Nat.{ℕ, _≤_, _<_, _-_}
+use native.Mathlib.Omega.{arith}
 use Rattle.code.proofs.First.{first-at, first-none}
 use Rattle.code.specs.Tables.{foundAt, pointOf}
-use native.Mathlib.Omega.{arith}
-use denote.Ref.{now}
 use Rattle.code.proofs.tables.find_point.Statement.{statement}
 use Rattle.code.proofs.tables.find_point.Tie as tie
-use Rattle.code.proofs.tables.find_point.Reads as reads
-use Rattle.code.proofs.tables.find_point.Lts as lts
 
 abbrev Inv-loop : tie.InvT-loop
 Inv-loop table point i₀ i = (i ≤ length table) × ((k : ℕ) → k < i → pointOf (getD table k 0) ≡ point → ⊥)
@@ -18,19 +18,15 @@ Inv-loop table point i₀ i = (i ≤ length table) × ((k : ℕ) → k < i → p
 abbrev μ-loop : tie.MeasureT-loop
 μ-loop table point i₀ i = length table - i
 
--- src/tables.rt:266:5
 loop-holds : tie.Need-loop-holds Inv-loop μ-loop
 loop-holds c = search needs
 
--- src/tables.rt:267:12
 mul-if1 : tie.Need-mul-if1 Inv-loop μ-loop
 mul-if1 c = search needs
 
--- src/tables.rt:267:12
 shared-slice-read-if1 : tie.Need-shared-slice-read-if1 Inv-loop μ-loop
 shared-slice-read-if1 c = search needs
 
--- src/tables.rt:268:13
 returns : tie.Need-returns Inv-loop μ-loop
 returns c =
     let head = c .before .before .before in
@@ -41,19 +37,15 @@ returns c =
     (c .if1 .taken)
     (head .loop .inv .1)))
 
--- src/tables.rt:270:9
 add-i : tie.Need-add-i Inv-loop μ-loop
 add-i c = search needs
 
--- src/tables.rt:266:5
 loop-less : tie.Need-loop-less Inv-loop μ-loop
 loop-less c = search needs
 
--- src/tables.rt:266:5
 loop-again : tie.Need-loop-again Inv-loop μ-loop
 loop-again c = (search needs, below-more _ _ (c .before .before .before .loop .inv .1) (c .if1 .left))
 
--- src/tables.rt:262:1
 returns-2 : tie.Need-returns-2 Inv-loop μ-loop
 returns-2 c =
     let start = c .before .before in

@@ -1,14 +1,12 @@
+-- `code::character::Character::from_entry` meets its contract: the test on the code point is the definition's.
+-- Assumes nothing.
 use borrow.Author.Tests.{eq-eqb, ne-eqb}
 use Rattle.code.proofs.character.Character.from_entry.Statement.{statement}
 use Rattle.code.proofs.character.Character.from_entry.Tie as tie
-use Rattle.code.proofs.character.Character.from_entry.Reads as reads
-use Rattle.code.proofs.character.Character.from_entry.Lts as lts
 
--- src/character.rt:36:5
 returns : tie.Need-returns
 returns c = simp (eq-eqb _ _ (c .if1 .taken))
 
--- src/character.rt:36:5
 returns-2 : tie.Need-returns-2
 returns-2 c = simp (ne-eqb _ _ (c .if1 .left))
 

@@ -1,35 +1,28 @@
+-- `code::color::Color::at` meets its contract: in the last arm the number is 6.
+-- Assumes nothing.
 use borrow.Author.Needs.{needs}
 use Rattle.code.proofs.Keys.{last-key}
 use Rattle.code.proofs.color.Color.at.Statement.{statement}
 use Rattle.code.proofs.color.Color.at.Tie as tie
-use Rattle.code.proofs.color.Color.at.Reads as reads
-use Rattle.code.proofs.color.Color.at.Lts as lts
 
--- src/color.rt:18:5
 returns : tie.Need-returns
 returns c = search needs
 
--- src/color.rt:18:5
 returns-2 : tie.Need-returns-2
 returns-2 c = search needs
 
--- src/color.rt:18:5
 returns-3 : tie.Need-returns-3
 returns-3 c = search needs
 
--- src/color.rt:18:5
 returns-4 : tie.Need-returns-4
 returns-4 c = search needs
 
--- src/color.rt:18:5
 returns-5 : tie.Need-returns-5
 returns-5 c = search needs
 
--- src/color.rt:18:5
 returns-6 : tie.Need-returns-6
 returns-6 c = search needs
 
--- src/color.rt:18:5
 returns-7 : tie.Need-returns-7
 returns-7 c = rw (last-key (c .before .args .n) 6 (c .before .pre) (c .match .rest))
 

@@ -1,105 +1,78 @@
+-- `code::control::Control::bytes` meets its contract, by the kind of the control; each number leaves room in the second byte.
+-- Assumes nothing.
 use borrow.Author.Needs.{needs}
-use native.Mathlib.Omega.{arith}
 use borrow.Author.Tests.{le-leb, lt-leb, le-ltb, lt-ltb}
 use mathlib.Core.Path.{ap}
 use native.Mathlib.Nat.{le-of-suc-le-suc}
+use native.Mathlib.Omega.{arith}
 use Rattle.code.proofs.Numbers.{command-back, tab-back}
 use Rattle.code.specs.Outcome.{answer}
 use Rattle.code.proofs.control.Control.bytes.Statement.{statement}
 use Rattle.code.proofs.control.Control.bytes.Tie as tie
-use Rattle.code.proofs.control.Control.bytes.Reads as reads
-use Rattle.code.proofs.control.Control.bytes.Lts as lts
-use Rattle.code.proofs.control.Command.number.Reads as control-Command-number-reads
-use Rattle.code.proofs.control.Tab.number.Reads as control-Tab-number-reads
-use Rattle.code.proofs.midrow.MidRow.bytes.Reads as midrow-MidRow-bytes-reads
-use Rattle.code.proofs.preamble.PreambleAddressCode.bytes.Reads as preamble-PreambleAddressCode-bytes-reads
-use Rattle.code.proofs.symbol.Symbol.bytes.Reads as symbol-Symbol-bytes-reads
 
--- src/write.rt:117:29
 enum-known-self : tie.Need-enum-known-self
 enum-known-self c = search needs
 
--- src/write.rt:117:49
 bytes-requires : tie.Need-bytes-requires
 bytes-requires c κs = search needs
 
--- src/write.rt:118:29
 enum-known-self-2 : tie.Need-enum-known-self-2
 enum-known-self-2 c = search needs
 
--- src/write.rt:118:51
 bytes-requires-2 : tie.Need-bytes-requires-2
 bytes-requires-2 c κs = search needs
 
--- src/write.rt:119:30
 enum-known-self-3 : tie.Need-enum-known-self-3
 enum-known-self-3 c = search needs
 
--- src/write.rt:119:71
 number-requires : tie.Need-number-requires
 number-requires c κs = search needs
 
--- src/write.rt:119:64
 add-t14 : tie.Need-add-t14
 add-t14 c = omega (arith, command-back (c .before .before .self3 .given .0 .0) .0)
 
--- src/write.rt:120:26
 enum-known-self-4 : tie.Need-enum-known-self-4
 enum-known-self-4 c = search needs
 
--- src/write.rt:120:63
 number-requires-2 : tie.Need-number-requires-2
 number-requires-2 c κs = search needs
 
--- src/write.rt:120:56
 add-t17 : tie.Need-add-t17
 add-t17 c = omega (arith, tab-back (c .before .before .self4 .given .0 .0) .0)
 
--- src/write.rt:121:31
 enum-known-self-5 : tie.Need-enum-known-self-5
 enum-known-self-5 c = search needs
 
--- src/write.rt:124:32
 bytes-requires-3 : tie.Need-bytes-requires-3
 bytes-requires-3 c κs = search needs
 
--- src/write.rt:129:30
 enum-known-self-6 : tie.Need-enum-known-self-6
 enum-known-self-6 c = search needs
 
--- src/write.rt:131:21
 returns : tie.Need-returns
 returns c = rw (c .before .before .self6 .given .1) (simp (le-ltb _ _ (c .if2 .taken)))
 
--- src/write.rt:134:21
 returns-2 : tie.Need-returns-2
 returns-2 c = rw (c .before .before .before .self6 .given .1) (simp (lt-ltb _ _ (c .before .if2 .left), le-ltb _ _ (c .if3 .taken)))
 
--- src/write.rt:113:5
 returns-3 : tie.Need-returns-3
 returns-3 c = rw (c .before .before .self .given .1) (ap answer (c .bytes .ensures))
 
--- src/write.rt:113:5
 returns-4 : tie.Need-returns-4
 returns-4 c = rw (c .before .before .self2 .given .1) (ap answer (c .bytes2 .ensures))
 
--- src/write.rt:113:5
 returns-5 : tie.Need-returns-5
 returns-5 c = rw (c .before .before .self3 .given .1, c .number .ensures)
 
--- src/write.rt:113:5
 returns-6 : tie.Need-returns-6
 returns-6 c = rw (c .before .before .self4 .given .1, c .number2 .ensures)
 
--- src/write.rt:113:5
 returns-7 : tie.Need-returns-7
 returns-7 c = rw (c .before .before .before .self5 .given .1) (simp (c .bytes3 .ensures, le-leb _ 14 (le-of-suc-le-suc (c .before .if1 .taken))))
 
--- src/write.rt:113:5
 returns-8 : tie.Need-returns-8
 returns-8 c = rw (c .before .before .self5 .given .1) (simp (lt-leb _ 14 (c .if1 .left)))
 
--- src/write.rt:113:5
 returns-9 : tie.Need-returns-9
 returns-9 c = rw (c .before .before .before .self6 .given .1) (simp (lt-ltb _ _ (c .before .if2 .left), lt-ltb _ _ (c .if3 .left)))
 

@@ -1,75 +1,61 @@
+-- `code::control::Control::parse` meets its contract: the preambles, the mid-row codes and the table's entries are together what the text says (`decided-is`).
+-- Assumes nothing.
+use Prim.Native.Nat.{_+_, _*_}
 use borrow.Author.Needs.{needs}
-use borrow.Author.Tests.{eq-eqb, ne-eqb, lt-ltb, le-ltb, le-leb, lt-leb}
-use mathlib.Core.Path.{sym, _∙_}
+use borrow.Author.Tests.{eq-eqb, ne-eqb, lt-leb}
 use mathlib.Core.List.{map}
+use mathlib.Core.Path.{sym, _∙_}
 use Rattle.code.proofs.First.{first-inside, found-none, found-some}
 use Rattle.code.proofs.Increasing.{increasing}
 use Rattle.code.proofs.Meaning.{decided-is}
-use Rattle.code.specs.Tables.{bytesOf, controlEntries}
-use Prim.Native.Nat.{_+_, _*_}
 use Rattle.code.specs.Position.{position}
+use Rattle.code.specs.Tables.{bytesOf, controlEntries}
 use Rattle.code.proofs.control.Control.parse.Statement.{statement}
 use Rattle.code.proofs.control.Control.parse.Tie as tie
-use Rattle.code.proofs.control.Control.parse.Reads as reads
-use Rattle.code.proofs.control.Control.parse.Lts as lts
-use Rattle.code.proofs.control.Control.at.Reads as control-Control-at-reads
-use Rattle.code.proofs.control.Control.parse_preamble.Reads as parse-preamble-reads
-use Rattle.code.proofs.midrow.MidRow.at.Reads as midrow-MidRow-at-reads
-use Rattle.code.proofs.tables.find_bytes.Reads as find-bytes-reads
 
--- src/read.rt:143:13
 parse-preamble-requires : tie.Need-parse-preamble-requires
 parse-preamble-requires c κs = search needs
 
--- src/read.rt:143:13
 returns : tie.Need-returns
 returns c = search needs
 
--- src/read.rt:145:21
 mul-bytes : tie.Need-mul-bytes
 mul-bytes c = search needs
 
--- src/read.rt:145:21
 add-bytes : tie.Need-add-bytes
 add-bytes c = search needs
 
--- src/read.rt:147:60
 sub-at : tie.Need-sub-at
 sub-at c = search needs
 
--- src/read.rt:147:48
 at-requires : tie.Need-at-requires
 at-requires c κs = search needs
 
--- src/read.rt:147:13
 returns-2 : tie.Need-returns-2
 returns-2 c = simp (← decided-is _ _ (c .before .before .before .pre .0) (c .before .before .before .pre .1) (c .before .before .before .pre .2), lt-leb _ _ (c .before .before .if1 .left), eq-eqb _ _ (c .before .if2 .taken), c .at .ensures)
 
--- src/read.rt:150:26
 slice-aggregate-find-bytes : tie.Need-slice-aggregate-find-bytes
 slice-aggregate-find-bytes c = search needs
 
--- src/read.rt:150:15
 find-bytes-requires : tie.Need-find-bytes-requires
+unfolding controlEntries
 find-bytes-requires c κs = increasing controlEntries tt
 
--- src/read.rt:151:23
 enum-known-i : tie.Need-enum-known-i
 enum-known-i c = search needs
 
--- src/read.rt:151:41
 at-requires-2 : tie.Need-at-requires-2
+unfolding controlEntries
 at-requires-2 c κs =
     let place = position (c .before .before .before .before .before .before .before .args .prefix * 256 + c .before .before .before .before .before .before .before .args .second) (map bytesOf controlEntries) in
     first-inside (c .before .before .before .before .before .before .before .args .prefix * 256 + c .before .before .before .before .before .before .before .args .second) (map bytesOf controlEntries) _
     (found-some place _ (sym (c .before .before .before .find-bytes .ensures) ∙ c .before .i .given .1))
 
--- src/read.rt:152:31
 enum-told : tie.Need-enum-told
 enum-told c = search needs
 
--- src/read.rt:138:5
 returns-3 : tie.Need-returns-3
+unfolding controlEntries
 returns-3 c =
     let place = position (c .before .before .before .before .before .before .before .before .args .prefix * 256 + c .before .before .before .before .before .before .before .before .args .second) (map bytesOf controlEntries) in
     simp (
@@ -80,8 +66,8 @@ returns-3 c =
       c .at2 .ensures,
     )
 
--- src/read.rt:138:5
 returns-4 : tie.Need-returns-4
+unfolding controlEntries
 returns-4 c =
     let place = position (c .before .before .before .before .before .before .args .prefix * 256 + c .before .before .before .before .before .before .args .second) (map bytesOf controlEntries) in
     simp (

@@ -1,36 +1,28 @@
+-- `code::control::Control::parse_preamble` meets its contract: the first byte's row, or the one after it, is the row of the prefix (`decided-is`).
+-- Assumes nothing.
+use Prim.Native.Nat.{_%_}
 use borrow.Author.Needs.{needs}
-use borrow.Author.Tests.{eq-eqb, ne-eqb, lt-ltb, le-ltb, le-leb, lt-leb}
+use borrow.Author.Tests.{eq-eqb, ne-eqb, lt-ltb, le-ltb, le-leb}
 use native.Mathlib.Omega.{arith}
 use Rattle.code.proofs.Meaning.{decided-is, first-row-small}
-use Prim.Native.Nat.{_%_}
 use Rattle.code.proofs.control.Control.parse_preamble.Statement.{statement}
 use Rattle.code.proofs.control.Control.parse_preamble.Tie as tie
-use Rattle.code.proofs.control.Control.parse_preamble.Reads as reads
-use Rattle.code.proofs.control.Control.parse_preamble.Lts as lts
-use Rattle.code.proofs.preamble.PreambleType.at.Reads as at-reads
-use Rattle.code.proofs.read.first_row.Reads as first-row-reads
 
--- src/read.rt:161:13
 first-row-requires : tie.Need-first-row-requires
 first-row-requires c κs = search needs
 
--- src/read.rt:162:13
 at-requires : tie.Need-at-requires
 at-requires c κs = search needs
 
--- src/read.rt:165:13
 returns : tie.Need-returns
 returns c = simp (← decided-is _ _ (c .before .before .before .pre .0) (c .before .before .before .pre .1) (c .before .before .before .pre .3), le-leb _ _ (c .before .before .before .pre .2), lt-ltb _ _ (c .if1 .taken), c .before .before .first-row .ensures, c .before .at .ensures)
 
--- src/read.rt:172:13
 returns-2 : tie.Need-returns-2
 returns-2 c = simp (← decided-is _ _ (c .before .before .before .before .pre .0) (c .before .before .before .before .pre .1) (c .before .before .before .before .pre .3), le-leb _ _ (c .before .before .before .before .pre .2), le-ltb _ _ (c .before .if1 .left), eq-eqb _ _ (c .if2 .taken))
 
--- src/read.rt:175:18
 add-t7 : tie.Need-add-t7
 add-t7 c = omega (arith, first-row-small (c .before .before .before .before .args .prefix % 8) (omega arith), c .before .before .before .first-row .ensures)
 
--- src/read.rt:157:5
 returns-3 : tie.Need-returns-3
 returns-3 c = simp (← decided-is _ _ (c .before .before .before .before .pre .0) (c .before .before .before .before .pre .1) (c .before .before .before .before .pre .3), le-leb _ _ (c .before .before .before .before .pre .2), le-ltb _ _ (c .before .if1 .left), ne-eqb _ _ (c .if2 .left), c .before .before .before .first-row .ensures, c .before .before .at .ensures)
 

@@ -1,58 +1,46 @@
+-- `code::preamble::PreambleAddressCode::bytes` meets its contract: the prefix has room for the style and the underline (`underlined-row`, `plain-row`).
+-- Assumes nothing.
 use borrow.Author.Needs.{needs}
 use native.Mathlib.Omega.{arith}
+use Rattle.code.proofs.Bytes.{prefix-small, underlined-row, plain-row}
 use Rattle.code.proofs.Numbers.{style-back}
 use Rattle.code.specs.Preamble.{styleOf}
-use Rattle.code.proofs.Bytes.{prefix-small, underlined-row, plain-row}
 use Rattle.code.proofs.preamble.PreambleAddressCode.bytes.Statement.{statement}
 use Rattle.code.proofs.preamble.PreambleAddressCode.bytes.Tie as tie
-use Rattle.code.proofs.preamble.PreambleAddressCode.bytes.Reads as reads
-use Rattle.code.proofs.preamble.PreambleAddressCode.bytes.Lts as lts
-use Rattle.code.proofs.preamble.PreambleType.style.Reads as style-reads
 
--- src/write.rt:190:19
 cast-row : tie.Need-cast-row
 cast-row c = search needs
 
--- src/write.rt:191:22
 mul-prefix : tie.Need-mul-prefix
 mul-prefix c = search needs
 
--- src/write.rt:191:22
 array-copy-out-prefix : tie.Need-array-copy-out-prefix
 array-copy-out-prefix c = search needs
 
--- src/write.rt:193:13
 style-requires : tie.Need-style-requires
 style-requires c κs = search needs
 
--- src/write.rt:195:39
 mul-t28 : tie.Need-mul-t28
 mul-t28 c = omega (arith, style-back (c .before .before .before .before .args .self .ty) .0)
 
--- src/write.rt:195:28
 add-t29 : tie.Need-add-t29
 add-t29 c = omega (arith, style-back (c .before .before .before .before .before .args .self .ty) .0, prefix-small (c .before .before .before .before .before .args .self .row) (c .before .before .before .before .before .pre))
 
--- src/write.rt:195:28
 add-t30 : tie.Need-add-t30
 add-t30 c = omega (arith, style-back (c .before .before .before .before .before .args .self .ty) .0, prefix-small (c .before .before .before .before .before .args .self .row) (c .before .before .before .before .before .pre))
 
--- src/write.rt:197:39
 mul-t31 : tie.Need-mul-t31
 mul-t31 c = omega (arith, style-back (c .before .before .before .before .args .self .ty) .0)
 
--- src/write.rt:197:28
 add-t32 : tie.Need-add-t32
 add-t32 c = omega (arith, style-back (c .before .before .before .before .before .args .self .ty) .0, prefix-small (c .before .before .before .before .before .args .self .row) (c .before .before .before .before .before .pre))
 
--- src/write.rt:185:5
 returns : tie.Need-returns
 returns c =
     let p = c .before .before .before .before .before .args .self in
     rw (c .before .if1 .taken, c .before .before .style .ensures)
     (underlined-row (p .row) (styleOf (p .ty)) (c .before .before .before .before .before .pre) (style-back (c .before .before .before .before .before .args .self .ty) .0))
 
--- src/write.rt:185:5
 returns-2 : tie.Need-returns-2
 returns-2 c =
     let p = c .before .before .before .before .before .args .self in

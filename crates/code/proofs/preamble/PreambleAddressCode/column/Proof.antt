@@ -1,29 +1,23 @@
+-- `code::preamble::PreambleAddressCode::column` meets its contract: the indent's columns, or none.
+-- Assumes nothing.
 use borrow.Author.Needs.{needs}
 use mathlib.Core.Path.{sym, ap, _∙_}
 use Rattle.code.specs.Preamble.{columnOf}
 use Rattle.code.proofs.preamble.PreambleAddressCode.column.Statement.{statement}
 use Rattle.code.proofs.preamble.PreambleAddressCode.column.Tie as tie
-use Rattle.code.proofs.preamble.PreambleAddressCode.column.Reads as reads
-use Rattle.code.proofs.preamble.PreambleAddressCode.column.Lts as lts
-use Rattle.code.proofs.preamble.PreambleType.indent.Reads as indent-reads
 
--- src/preamble.rt:159:15
 indent-requires : tie.Need-indent-requires
 indent-requires c κs = search needs
 
--- src/preamble.rt:160:33
 enum-known-columns : tie.Need-enum-known-columns
 enum-known-columns c = search needs
 
--- src/preamble.rt:161:36
 enum-told : tie.Need-enum-told
 enum-told c = search needs
 
--- src/preamble.rt:155:5
 returns : tie.Need-returns
 returns c = sym (ap columnOf (sym (c .before .before .before .indent .ensures) ∙ c .before .columns .given .1))
 
--- src/preamble.rt:155:5
 returns-2 : tie.Need-returns-2
 returns-2 c = sym (ap columnOf (sym (c .before .before .indent .ensures) ∙ c .enum-told .given .1))
 

@@ -1,17 +1,15 @@
+-- `code::preamble::PreambleAddressCode::new` meets its contract: a row below 15 is at most 14.
+-- Assumes nothing.
 use borrow.Author.Tests.{le-leb, lt-leb}
-use native.Mathlib.Nat.{le-of-suc-le-suc}
+use native.Mathlib.Omega.{arith}
 use Rattle.code.proofs.preamble.PreambleAddressCode.new.Statement.{statement}
 use Rattle.code.proofs.preamble.PreambleAddressCode.new.Tie as tie
-use Rattle.code.proofs.preamble.PreambleAddressCode.new.Reads as reads
-use Rattle.code.proofs.preamble.PreambleAddressCode.new.Lts as lts
 
--- src/preamble.rt:133:5
 returns : tie.Need-returns
-returns c = simp (le-leb (c .before .args .row) 14 (le-of-suc-le-suc (c .if1 .taken)))
+returns c = simp (le-leb (c .before .args .row) 14 (omega arith))
 
--- src/preamble.rt:133:5
 returns-2 : tie.Need-returns-2
-returns-2 c = simp (lt-leb (c .before .args .row) 14 (c .if1 .left))
+returns-2 c = simp (lt-leb (c .before .args .row) 14 (omega arith))
 
 pub new-spec : {M : Type 1} → statement M
 new-spec = tie.close (tie.spec returns returns-2)

@@ -1,18 +1,17 @@
+-- `code::preamble::PreambleType::from_indent` meets its contract: multiples of four up to 28 are the eight indents, by one computation over all bytes.
+-- Assumes nothing.
+use Prim.Native.Nat.{ℕ, _+_, _/_, _%_, _<_}
 use borrow.Author.Needs.{needs}
 use borrow.Author.Tests.{eq-eqb, ne-eqb, le-leb, lt-leb}
 use lib.Dec.{eqb, leb}
 use mathlib.Core.Bool.{cond}
 use mathlib.Core.Path.{_≡_, refl}
-use Prim.Native.Nat.{ℕ, _+_, _/_, _%_, _<_}
 use Rattle.code.proofs.Agree.{agree}
 use Rattle.code.specs.Outcome.{Outcome, answer, refused}
 use Rattle.code.specs.Preamble.{fromIndent, styleAt}
 use Rattle.code.specs.declared.preamble.PreambleType.{PreambleType}
 use Rattle.code.proofs.preamble.PreambleType.from_indent.Statement.{statement}
 use Rattle.code.proofs.preamble.PreambleType.from_indent.Tie as tie
-use Rattle.code.proofs.preamble.PreambleType.from_indent.Reads as reads
-use Rattle.code.proofs.preamble.PreambleType.from_indent.Lts as lts
-use Rattle.code.proofs.preamble.PreambleType.at.Reads as at-reads
 
 -- an indent as the code tests it
 abbrev tested : ℕ → Outcome PreambleType
@@ -24,23 +23,19 @@ by-tests n h = agree tested fromIndent 256 refl n h
 add-at : tie.Need-add-at
 add-at c = search needs
 
--- src/preamble.rt:42:41
 at-requires : tie.Need-at-requires
 at-requires c κs = search needs
 
--- src/preamble.rt:42:17
 returns : tie.Need-returns
 returns c =
     let n = c .before .before .before .args .indent in
     simp (← by-tests n (c .before .before .before .fits .indent .fits), eq-eqb _ _ (c .before .before .if1 .taken), le-leb _ _ (c .before .if2 .taken), c .at .ensures)
 
--- src/preamble.rt:37:5
 returns-2 : tie.Need-returns-2
 returns-2 c =
     let n = c .before .before .args .indent in
     simp (← by-tests n (c .before .before .fits .indent .fits), eq-eqb _ _ (c .before .if1 .taken), lt-leb _ _ (c .if2 .left))
 
--- src/preamble.rt:37:5
 returns-3 : tie.Need-returns-3
 returns-3 c =
     let n = c .before .args .indent in

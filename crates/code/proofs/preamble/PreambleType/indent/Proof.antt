@@ -1,3 +1,5 @@
+-- `code::preamble::PreambleType::indent` meets its contract: from style 8 on, four columns each.
+-- Assumes nothing.
 use borrow.Author.Needs.{needs}
 use borrow.Author.Tests.{le-leb, lt-leb}
 use native.Mathlib.Nat.{mul-comm}
@@ -5,23 +7,16 @@ use native.Mathlib.Omega.{arith}
 use Rattle.code.proofs.Numbers.{style-back}
 use Rattle.code.proofs.preamble.PreambleType.indent.Statement.{statement}
 use Rattle.code.proofs.preamble.PreambleType.indent.Tie as tie
-use Rattle.code.proofs.preamble.PreambleType.indent.Reads as reads
-use Rattle.code.proofs.preamble.PreambleType.indent.Lts as lts
-use Rattle.code.proofs.preamble.PreambleType.style.Reads as style-reads
 
--- src/preamble.rt:71:13
 style-requires : tie.Need-style-requires
 style-requires c κs = search needs
 
--- src/preamble.rt:75:33
 mul-t6 : tie.Need-mul-t6
 mul-t6 c = omega (arith, style-back (c .before .before .args .self) .0)
 
--- src/preamble.rt:68:5
 returns : tie.Need-returns
 returns c = simp (← c .before .style .ensures, lt-leb _ _ (c .if1 .taken))
 
--- src/preamble.rt:68:5
 returns-2 : tie.Need-returns-2
 returns-2 c = simp (← c .before .style .ensures, le-leb _ _ (c .if1 .left), mul-comm 4)
 

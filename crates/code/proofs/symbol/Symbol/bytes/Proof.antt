@@ -1,36 +1,30 @@
-use borrow.Author.Needs.{needs}
-use native.Mathlib.Omega.{arith}
-use mathlib.Core.Path.{ap}
+-- `code::symbol::Symbol::bytes` meets its contract: the row's first bytes have room for the column (`symbol-plus`).
+-- Assumes nothing.
 use Prim.Native.Nat.{ℕ}
+use borrow.Author.Needs.{needs}
+use mathlib.Core.Path.{ap}
+use native.Mathlib.Omega.{arith}
 use Rattle.code.proofs.Bytes.{base-small, symbol-plus}
 use Rattle.code.proofs.Numbers.{column-back}
 use Rattle.code.specs.Column.{columnNumber}
 use Rattle.code.specs.declared.pair.Pair.{Pair}
 use Rattle.code.proofs.symbol.Symbol.bytes.Statement.{statement}
 use Rattle.code.proofs.symbol.Symbol.bytes.Tie as tie
-use Rattle.code.proofs.symbol.Symbol.bytes.Reads as reads
-use Rattle.code.proofs.symbol.Symbol.bytes.Lts as lts
-use Rattle.code.proofs.column.Column.number.Reads as number-reads
-use Rattle.code.proofs.symbol.SymbolRow.base.Reads as base-reads
 
 abbrev second : Pair → ℕ
 second p = p .1
 
--- src/write.rt:178:13
 base-requires : tie.Need-base-requires
 base-requires c κs = search needs
 
--- src/write.rt:179:31
 number-requires : tie.Need-number-requires
 number-requires c κs = search needs
 
--- src/write.rt:179:22
 add-t6 : tie.Need-add-t6
 add-t6 c =
     let s = c .before .before .before .args .self in
     omega (arith, ap second (c .before .before .base .ensures), base-small (s .row), column-back (s .column) .0)
 
--- src/write.rt:173:5
 returns : tie.Need-returns
 returns c =
     let s = c .before .before .before .args .self in

@@ -1,27 +1,22 @@
+-- `code::symbol::SymbolRow::at` meets its contract: in the last arm the number is 4.
+-- Assumes nothing.
 use borrow.Author.Needs.{needs}
 use Rattle.code.proofs.Keys.{last-key}
 use Rattle.code.proofs.symbol.SymbolRow.at.Statement.{statement}
 use Rattle.code.proofs.symbol.SymbolRow.at.Tie as tie
-use Rattle.code.proofs.symbol.SymbolRow.at.Reads as reads
-use Rattle.code.proofs.symbol.SymbolRow.at.Lts as lts
 
--- src/symbol.rt:29:5
 returns : tie.Need-returns
 returns c = search needs
 
--- src/symbol.rt:29:5
 returns-2 : tie.Need-returns-2
 returns-2 c = search needs
 
--- src/symbol.rt:29:5
 returns-3 : tie.Need-returns-3
 returns-3 c = search needs
 
--- src/symbol.rt:29:5
 returns-4 : tie.Need-returns-4
 returns-4 c = search needs
 
--- src/symbol.rt:29:5
 returns-5 : tie.Need-returns-5
 returns-5 c = rw (last-key (c .before .args .n) 4 (c .before .pre) (c .match .rest))
 
