@@ -11,7 +11,7 @@ use Rattle.code.specs.Control.{tabOffsetOutcome}
 use Rattle.code.specs.Outcome.{Outcome, answer, refused}
 use Rattle.code.specs.Preamble.{fromIndentOutcome, newPreambleOutcome}
 use Rattle.code.specs.Read.{fromDataOutcome}
-use Rattle.code.specs.Write.{writtenOutcome}
+use Rattle.code.specs.Write.{domainOutcome, writtenOutcome}
 use Rattle.code.specs.declared.character.Character.{Character}
 use Rattle.code.specs.declared.character.Character.the-variants as character
 use Rattle.code.specs.declared.character.FromChar.{FromChar}
@@ -26,6 +26,8 @@ use Rattle.code.specs.declared.preamble.NewPreamble.{NewPreamble}
 use Rattle.code.specs.declared.preamble.NewPreamble.the-variants as preamble
 use Rattle.code.specs.declared.read.FromData.{FromData}
 use Rattle.code.specs.declared.read.FromData.the-variants as from-data
+use Rattle.code.specs.declared.write.Domain.{Domain}
+use Rattle.code.specs.declared.write.Domain.the-variants as domain
 use Rattle.code.specs.declared.write.Written.{Written}
 use Rattle.code.specs.declared.write.Written.the-variants as written
 
@@ -94,3 +96,14 @@ new-preamble-told (preamble.Made x) (preamble.Made y) e = cc
 new-preamble-told (preamble.Made x) preamble.NoSuchRow e = absurd (clash e)
 new-preamble-told preamble.NoSuchRow (preamble.Made y) e = absurd (clash (sym e))
 new-preamble-told preamble.NoSuchRow preamble.NoSuchRow e = refl
+
+pub domain-told : Told domainOutcome
+domain-told domain.Inside domain.Inside e = refl
+domain-told domain.Inside domain.UnknownByte e = absurd (clash e)
+domain-told domain.Inside domain.NoSuchRow e = absurd (clash e)
+domain-told domain.UnknownByte domain.Inside e = absurd (clash (sym e))
+domain-told domain.UnknownByte domain.UnknownByte e = refl
+domain-told domain.UnknownByte domain.NoSuchRow e = let z : _≡_ {A = ℕ} 2 3 = cc in absurd (omega arith)
+domain-told domain.NoSuchRow domain.Inside e = absurd (clash (sym e))
+domain-told domain.NoSuchRow domain.UnknownByte e = let z : _≡_ {A = ℕ} 3 2 = cc in absurd (omega arith)
+domain-told domain.NoSuchRow domain.NoSuchRow e = refl

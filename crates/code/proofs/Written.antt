@@ -1,22 +1,24 @@
 -- What is known of a written pair, and all that the layers above know of one: both bytes have odd parity, the length is
 -- the code's, and the first stripped byte tells whether the pair is read as a command or as two single codes.
 -- Assumes nothing.
-use mathlib.Core.Bool.{Bool, true, false, cond}
-use mathlib.Core.Path.{_≡_, refl, subst}
+use mathlib.Core.Bool.{Bool, true, false, cond, _&&_}
+use mathlib.Core.Path.{_≡_, refl, subst, sym}
 use Prim.Native.Nat.{ℕ, _+_, _<_}
 use native.Mathlib.Omega.{arith}
 use lib.Count.{ones, onesIn}
-use lib.Dec.{lit<, ltb}
+use lib.Dec.{leb, lit<, ltb}
 use Rattle.code.proofs.Agree.{agree}
 use Rattle.code.specs.Code.{byteLen}
 use Rattle.code.specs.Outcome.{Outcome, answer, refused}
 use Rattle.code.specs.Parity.{isOdd, stripped, withParity}
 use Rattle.code.specs.Read.{commandOf, isCommand, readPair, single}
-use Rattle.code.specs.Write.{asCommand, asSingle, controlBytes, writeCode}
+use Rattle.code.specs.Write.{asCommand, asSingle, controlBytes, controlInDomain, inDomain, pair, preambleBytes, unless, writeCode}
 use Rattle.code.specs.declared.channel.Channel.{Channel}
 use Rattle.code.specs.declared.code.Code.{Code}
 use Rattle.code.specs.declared.code.Code.the-variants as code
 use Rattle.code.specs.declared.control.CodeField.{CodeField}
+use Rattle.code.specs.declared.control.Control.{Control}
+use Rattle.code.specs.declared.control.Control.the-variants as control
 use Rattle.code.specs.declared.pair.Pair.{Pair}
 
 -- a byte that may stand on the line
@@ -81,3 +83,31 @@ read-as-command a b oa ob e = rw (oa, ob, e)
 pub read-as-text : (a b : ℕ) → isOdd a ≡ true → isOdd b ≡ true → isCommand (stripped a) ≡ false → readPair a b ≡ answer (single (stripped a), single (stripped b))
 unfolding readPair
 read-as-text a b oa ob e = rw (oa, ob, e)
+
+-- a code is in the domain exactly where it can be written, and the refusals are the same
+abbrev pub settled : Outcome (Pair × ℕ) → Outcome Unit
+settled (answer x) = answer tt
+settled (refused n) = refused n
+
+tested : (t : Bool) (x : Outcome (Pair × ℕ)) (n : ℕ) → settled x ≡ answer tt → unless t n ≡ settled (cond t x (refused n))
+tested true x n e = sym e
+tested false x n e = refl
+
+bytes-settled : (f : CodeField) (c : Channel) (t : Bool) (p : Pair) (n : ℕ) → unless t n ≡ settled (asCommand f c (cond t (answer p) (refused n)))
+bytes-settled f c true p n = refl
+bytes-settled f c false p n = refl
+
+control-settled : (f : CodeField) (ch : Channel) (c : Control) → controlInDomain c ≡ settled (asCommand f ch (controlBytes c))
+control-settled f ch (control.MidRow m) = refl
+control-settled f ch (control.Symbol s) = refl
+control-settled f ch (control.Command c) = refl
+control-settled f ch (control.Tab t) = refl
+control-settled f ch (control.Preamble p) = bytes-settled f ch (leb (p .row) 14) (preambleBytes p) 3
+control-settled f ch (control.Unknown a b) = bytes-settled f ch (ltb a 0x80 && ltb b 0x80) (pair a b) 2
+
+pub domain-is-written : (c : Code) → inDomain c ≡ settled (writeCode c)
+unfolding inDomain writeCode
+domain-is-written code.Nul = refl
+domain-is-written (code.Control c) = control-settled (c .field) (c .channel) (c .control)
+domain-is-written (code.Letter l) = refl
+domain-is-written (code.Unknown b) = tested (ltb b 0x80) (asSingle b) 2 refl

@@ -29,6 +29,8 @@ use Rattle.code.specs.declared.symbol.Symbol.{Symbol}
 use Rattle.code.specs.declared.symbol.SymbolRow.{SymbolRow}
 use Rattle.code.specs.declared.write.Bytes.{Bytes}
 use Rattle.code.specs.declared.write.Bytes.the-variants as bytes
+use Rattle.code.specs.declared.write.Domain.{Domain}
+use Rattle.code.specs.declared.write.Domain.the-variants as domain
 use Rattle.code.specs.declared.write.Written.{Written}
 use Rattle.code.specs.declared.write.Written.the-variants.{Made, UnknownByte, NoSuchRow}
 
@@ -106,6 +108,30 @@ abbrev pub writtenOutcome : Written → Outcome (Pair × ℕ)
 writtenOutcome (Made p n) = answer (p, n)
 writtenOutcome UnknownByte = refused 2
 writtenOutcome NoSuchRow = refused 3
+
+-- a code that can be written: 2 and 3 as above
+abbrev pub unless : Bool → ℕ → Outcome Unit
+unless true n = answer tt
+unless false n = refused n
+
+abbrev pub controlInDomain : Control → Outcome Unit
+controlInDomain (control.MidRow m) = answer tt
+controlInDomain (control.Symbol s) = answer tt
+controlInDomain (control.Command c) = answer tt
+controlInDomain (control.Tab t) = answer tt
+controlInDomain (control.Preamble p) = unless (leb (p .row) 14) 3
+controlInDomain (control.Unknown a b) = unless (ltb a 0x80 && ltb b 0x80) 2
+
+unfoldable pub inDomain : Code → Outcome Unit
+inDomain code.Nul = answer tt
+inDomain (code.Control c) = controlInDomain (c .control)
+inDomain (code.Letter l) = answer tt
+inDomain (code.Unknown b) = unless (ltb b 0x80) 2
+
+abbrev pub domainOutcome : Domain → Outcome Unit
+domainOutcome domain.Inside = answer tt
+domainOutcome domain.UnknownByte = refused 2
+domainOutcome domain.NoSuchRow = refused 3
 
 -- two codes that were read from one pair are written as the command, or as the two single bytes
 abbrev pub together : Outcome (Pair × ℕ) → Outcome (Pair × ℕ) → Outcome Pair

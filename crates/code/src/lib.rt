@@ -44,4 +44,5 @@ pub use preamble::PreambleType;
 pub use read::FromData;
 pub use symbol::Symbol;
 pub use symbol::SymbolRow;
+pub use write::Domain;
 pub use write::Written;

@@ -2,6 +2,7 @@
 ghost use mathlib.Core.Path.{_≡_};
 ghost use Prim.Native.Nat.{_<_};
 ghost use Rattle.code.specs.Write.{writeCode, writtenOutcome, asCommand, onLine, withField, withChannel};
+ghost use Rattle.code.specs.Write.{inDomain, controlInDomain, domainOutcome};
 ghost use Rattle.code.specs.Write.{controlBytes, bytesOutcome, midRowBytes, symbolBytes, symbolBase, preambleBytes};
 use crate::channel::Channel;
 use crate::code::Code;
@@ -20,6 +21,13 @@ use crate::tables::ROW_PREFIXES;
 // A written pair and how many of its bytes the code fills. `UnknownByte` is refusal 2, `NoSuchRow` refusal 3.
 pub enum Written {
     Made(Pair, usize),
+    UnknownByte,
+    NoSuchRow,
+}
+
+// Whether a code can be written. `UnknownByte` is refusal 2, `NoSuchRow` refusal 3.
+pub enum Domain {
+    Inside,
     UnknownByte,
     NoSuchRow,
 }
@@ -46,6 +54,60 @@ impl Code {
                 } else {
                     Written::UnknownByte
                 }
+            }
+        }
+    }
+}
+
+impl Code {
+    // Whether the code can be written, with no byte made.
+    pub fn domain(self) -> Domain
+        ensures { λ r. ⌜ domainOutcome r ≡ inDomain self ⌝ }
+    {
+        match self {
+            Code::Nul => Domain::Inside,
+            Code::Control(code) => {
+                let control = code.control;
+                control.domain()
+            }
+            Code::Letter(_) => Domain::Inside,
+            Code::Unknown(byte) => {
+                if byte < 0x80 {
+                    Domain::Inside
+                } else {
+                    Domain::UnknownByte
+                }
+            }
+        }
+    }
+}
+
+impl Control {
+    // As `Code::domain`.
+    pub(crate) fn domain(self) -> Domain
+        ensures { λ r. ⌜ domainOutcome r ≡ controlInDomain self ⌝ }
+    {
+        match self {
+            Control::MidRow(_) => Domain::Inside,
+            Control::Symbol(_) => Domain::Inside,
+            Control::Command(_) => Domain::Inside,
+            Control::Tab(_) => Domain::Inside,
+            Control::Preamble(preamble) => {
+                let row = preamble.row;
+                if row < 15 {
+                    Domain::Inside
+                } else {
+                    Domain::NoSuchRow
+                }
+            }
+            Control::Unknown(first, second) => {
+                if 0x80 <= first {
+                    return Domain::UnknownByte;
+                }
+                if 0x80 <= second {
+                    return Domain::UnknownByte;
+                }
+                Domain::Inside
             }
         }
     }

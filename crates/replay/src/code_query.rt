@@ -1,20 +1,11 @@
 // The queries of the code layer.
 ghost use Prim.Native.Nat.{_<_};
 use crate::from_bytes;
-use crate::from_bytes::AskedChannel;
-use crate::from_bytes::AskedCode;
-use crate::from_bytes::AskedColor;
-use crate::from_bytes::AskedControl;
-use crate::from_bytes::AskedField;
-use crate::from_bytes::AskedFlag;
-use crate::from_bytes::AskedStyle;
 use crate::query::not_a_query;
 use crate::to_bytes;
-use crate::to_bytes::CodeBytes;
 use code::Channel;
 use code::Character;
 use code::Code;
-use code::CodeField;
 use code::Control;
 use code::ControlCode;
 use code::Field;
@@ -33,36 +24,37 @@ use code::parity;
 pub(crate) fn answer(asked: [u8; 16]) -> [u8; 16] {
     let kind = asked[0];
     match kind {
-        0x01 => read(asked),
-        0x02 => write(asked),
-        0x03 => character(asked),
-        0x04 => length(asked),
-        0x05 => backspace(asked),
+        0x01 => read(asked[1], asked[2]),
+        0x02 => write(from_bytes::code(asked)),
+        0x03 => character(from_bytes::code(asked)),
+        0x04 => one((from_bytes::code(asked).byte_len() % 256) as u8),
+        0x05 => one(to_bytes::flag(from_bytes::code(asked).needs_backspace())),
         0x06 => from_char(asked),
-        0x07 => mid_row_color(asked),
-        0x08 => mid_row_italics(asked),
-        0x09 => from_indent(asked),
-        0x0A => from_color(asked),
-        0x0B => preamble(asked),
+        0x07 => mid_row(MidRow::new_color(from_bytes::color(asked[1]), asked[2] == 1)),
+        0x08 => mid_row(MidRow::new_italics(asked[1] == 1)),
+        0x09 => from_indent(asked[1]),
+        0x0A => from_color(asked[1]),
+        0x0B => preamble(asked[1], asked[2] == 1, asked[3]),
         0x0C => control_code(asked),
-        0x0D => tab_offset(asked),
+        0x0D => tab_offset(asked[1]),
         0x0E => ids(),
-        0x0F => byte_parity(asked),
+        0x0F => byte_parity(asked[1]),
         _ => not_a_query(),
     }
 }
 
-fn refused(number: u8) -> [u8; 16] {
+// An answer of one byte, as a refusal is.
+fn one(first: u8) -> [u8; 16] {
     let mut out = [0u8; 16];
-    out[0] = number;
+    out[0] = first;
     out
 }
 
-fn read(asked: [u8; 16]) -> [u8; 16] {
-    match Code::from_data(Pair(asked[1], asked[2])) {
-        FromData::Codes(first, second) => {
-            let a = to_bytes::code(first);
-            let b = to_bytes::code(second);
+fn read(first: u8, second: u8) -> [u8; 16] {
+    match Code::from_data(Pair(first, second)) {
+        FromData::Codes(x, y) => {
+            let a = to_bytes::code(x);
+            let b = to_bytes::code(y);
             [
                 0,
                 a.kind,
@@ -82,14 +74,11 @@ fn read(asked: [u8; 16]) -> [u8; 16] {
                 0,
             ]
         }
-        FromData::InvalidParity => refused(1),
+        FromData::InvalidParity => one(1),
     }
 }
 
-fn write(asked: [u8; 16]) -> [u8; 16] {
-    let AskedCode::Known(code) = from_bytes::code(asked) else {
-        return not_a_query();
-    };
+fn write(code: Code) -> [u8; 16] {
     match code.write() {
         Written::Made(pair, length) => {
             let mut out = [0u8; 16];
@@ -98,45 +87,23 @@ fn write(asked: [u8; 16]) -> [u8; 16] {
             out[3] = (length % 256) as u8;
             out
         }
-        Written::UnknownByte => refused(2),
-        Written::NoSuchRow => refused(3),
+        Written::UnknownByte => one(2),
+        Written::NoSuchRow => one(3),
     }
 }
 
-fn character(asked: [u8; 16]) -> [u8; 16] {
-    let AskedCode::Known(code) = from_bytes::code(asked) else {
-        return not_a_query();
-    };
-    let mut out = [0u8; 16];
+fn character(code: Code) -> [u8; 16] {
     match code.char() {
         Character::Point(point) => {
-            out[0] = 1;
+            let mut out = one(1);
             out[1] = (point % 256) as u8;
             out[2] = (point / 256 % 256) as u8;
             out[3] = (point / 65536 % 256) as u8;
             out[4] = (point / 16777216) as u8;
+            out
         }
-        Character::Absent => {}
+        Character::Absent => one(0),
     }
-    out
-}
-
-fn length(asked: [u8; 16]) -> [u8; 16] {
-    let AskedCode::Known(code) = from_bytes::code(asked) else {
-        return not_a_query();
-    };
-    let mut out = [0u8; 16];
-    out[0] = (code.byte_len() % 256) as u8;
-    out
-}
-
-fn backspace(asked: [u8; 16]) -> [u8; 16] {
-    let AskedCode::Known(code) = from_bytes::code(asked) else {
-        return not_a_query();
-    };
-    let mut out = [0u8; 16];
-    out[0] = to_bytes::flag(code.needs_backspace());
-    out
 }
 
 fn wide(byte: u8) -> u32
@@ -146,12 +113,9 @@ fn wide(byte: u8) -> u32
 }
 
 fn from_char(asked: [u8; 16]) -> [u8; 16] {
-    let AskedChannel::Known(channel) = from_bytes::channel(asked[5]) else {
-        return not_a_query();
-    };
     let low = wide(asked[1]) + wide(asked[2]) * 256;
     let high = wide(asked[3]) + wide(asked[4]) * 256;
-    match Code::from_char(low + high * 65536, channel) {
+    match Code::from_char(low + high * 65536, from_bytes::channel(asked[5])) {
         FromChar::Made(code) => {
             let a = to_bytes::code(code);
             [
@@ -173,62 +137,35 @@ fn from_char(asked: [u8; 16]) -> [u8; 16] {
                 0,
             ]
         }
-        FromChar::NoSuchCharacter => refused(5),
+        FromChar::NoSuchCharacter => one(5),
     }
 }
 
 fn mid_row(m: MidRow) -> [u8; 16] {
-    let mut out = [0u8; 16];
-    out[0] = to_bytes::color_or_seven(m.color());
+    let mut out = one(to_bytes::color_or_seven(m.color()));
     out[1] = to_bytes::flag(m.underline());
     out[2] = to_bytes::flag(m.italics());
     out[3] = m.number();
     out
 }
 
-fn mid_row_color(asked: [u8; 16]) -> [u8; 16] {
-    let AskedColor::Known(color) = from_bytes::color(asked[1]) else {
-        return not_a_query();
-    };
-    let AskedFlag::Known(underline) = from_bytes::flag(asked[2]) else {
-        return not_a_query();
-    };
-    mid_row(MidRow::new_color(color, underline))
-}
-
-fn mid_row_italics(asked: [u8; 16]) -> [u8; 16] {
-    let AskedFlag::Known(underline) = from_bytes::flag(asked[1]) else {
-        return not_a_query();
-    };
-    mid_row(MidRow::new_italics(underline))
-}
-
-fn from_indent(asked: [u8; 16]) -> [u8; 16] {
-    match PreambleType::from_indent(asked[1]) {
+fn from_indent(indent: u8) -> [u8; 16] {
+    match PreambleType::from_indent(indent) {
         FromIndent::Made(ty) => {
             let t = to_bytes::preamble_type(ty);
             [0, t[0], t[1], t[2], t[3], 0, 0, 0, 0, 0, 0, 0, 0, 0, 0, 0]
         }
-        FromIndent::NoSuchIndent => refused(8),
+        FromIndent::NoSuchIndent => one(8),
     }
 }
 
-fn from_color(asked: [u8; 16]) -> [u8; 16] {
-    let AskedColor::Known(color) = from_bytes::color(asked[1]) else {
-        return not_a_query();
-    };
-    let t = to_bytes::preamble_type(PreambleType::from_color(color));
+fn from_color(color: u8) -> [u8; 16] {
+    let t = to_bytes::preamble_type(PreambleType::from_color(from_bytes::color(color)));
     [t[0], t[1], t[2], t[3], 0, 0, 0, 0, 0, 0, 0, 0, 0, 0, 0, 0]
 }
 
-fn preamble(asked: [u8; 16]) -> [u8; 16] {
-    let AskedFlag::Known(underline) = from_bytes::flag(asked[2]) else {
-        return not_a_query();
-    };
-    let AskedStyle::Known(ty) = from_bytes::style(asked[3]) else {
-        return not_a_query();
-    };
-    match PreambleAddressCode::new(asked[1], underline, ty) {
+fn preamble(row: u8, underline: bool, style: u8) -> [u8; 16] {
+    match PreambleAddressCode::new(row, underline, from_bytes::style(style)) {
         NewPreamble::Made(p) => {
             let mut out = [0u8; 16];
             out[1] = p.row();
@@ -239,28 +176,15 @@ fn preamble(asked: [u8; 16]) -> [u8; 16] {
             out[6] = p.color().number();
             out
         }
-        NewPreamble::NoSuchRow => refused(3),
+        NewPreamble::NoSuchRow => one(3),
     }
 }
 
 fn control_code(asked: [u8; 16]) -> [u8; 16] {
-    let AskedField::Known(named) = from_bytes::field(asked[1]) else {
-        return not_a_query();
-    };
-    let CodeField::Of(field) = named else {
-        return not_a_query();
-    };
-    let AskedChannel::Known(channel) = from_bytes::channel(asked[2]) else {
-        return not_a_query();
-    };
-    let AskedControl::Known(control) = from_bytes::control(asked[3], asked[4], asked[5], asked[6])
-    else {
-        return not_a_query();
-    };
-    let made = ControlCode::new(field, channel, control);
+    let control = from_bytes::control(asked[3], asked[4], asked[5], asked[6]);
+    let made = ControlCode::new(Field(asked[1] == 1), from_bytes::channel(asked[2]), control);
     let c = to_bytes::control(made.code());
-    let mut out = [0u8; 16];
-    out[0] = to_bytes::field(made.field());
+    let mut out = one(to_bytes::field(made.field()));
     out[1] = made.channel().id();
     out[2] = c.kind;
     out[3] = c.x;
@@ -269,31 +193,29 @@ fn control_code(asked: [u8; 16]) -> [u8; 16] {
     out
 }
 
-fn tab_offset(asked: [u8; 16]) -> [u8; 16] {
-    match Control::tab_offset(asked[1]) {
+fn tab_offset(count: u8) -> [u8; 16] {
+    match Control::tab_offset(count) {
         TabOffset::Made(control) => {
-            let mut out = [0u8; 16];
             let c = to_bytes::control(control);
+            let mut out = [0u8; 16];
             out[1] = c.x;
             out
         }
-        TabOffset::NoSuchTab => refused(4),
+        TabOffset::NoSuchTab => one(4),
     }
 }
 
 fn ids() -> [u8; 16] {
-    let mut out = [0u8; 16];
-    out[0] = Channel::ONE.id();
+    let mut out = one(Channel::ONE.id());
     out[1] = Channel::TWO.id();
     out[2] = Field::ONE.id();
     out[3] = Field::TWO.id();
     out
 }
 
-fn byte_parity(asked: [u8; 16]) -> [u8; 16] {
-    let mut out = [0u8; 16];
-    let stripped = parity::strip_parity(asked[1]);
-    out[0] = to_bytes::flag(parity::check_odd_parity(asked[1]));
+fn byte_parity(byte: u8) -> [u8; 16] {
+    let stripped = parity::strip_parity(byte);
+    let mut out = one(to_bytes::flag(parity::check_odd_parity(byte)));
     out[1] = stripped;
     out[2] = parity::add_parity(stripped);
     out

@@ -6,8 +6,8 @@ use code::MaybeColor;
 use code::MaybeIndent;
 use code::PreambleType;
 
-// A code's six bytes: kind, field, channel, x, y, z.
-pub struct CodeBytes {
+// A code's six bytes.
+pub(crate) struct CodeBytes {
     pub kind: u8,
     pub field: u8,
     pub channel: u8,
@@ -27,75 +27,42 @@ pub(crate) fn field(f: CodeField) -> u8 {
     }
 }
 
-// A control's kind, x, y and z.
-pub(crate) fn control(control: Control) -> CodeBytes {
-    let mut out = CodeBytes {
-        kind: 0,
+// The bytes of a code that has no field and no channel.
+fn plain(kind: u8, x: u8, y: u8, z: u8) -> CodeBytes {
+    CodeBytes {
+        kind: kind,
         field: 0,
         channel: 0,
-        x: 0,
-        y: 0,
-        z: 0,
-    };
-    match control {
-        Control::MidRow(m) => {
-            out.kind = 3;
-            out.x = m.number();
-            out.y = flag(m.underline());
-        }
-        Control::Symbol(s) => {
-            out.kind = 4;
-            out.x = s.place();
-        }
-        Control::Command(c) => {
-            out.kind = 5;
-            out.x = c.number();
-        }
-        Control::Tab(t) => {
-            out.kind = 6;
-            out.x = t.number();
-        }
-        Control::Preamble(p) => {
-            out.kind = 7;
-            out.x = p.row();
-            out.y = p.code().style();
-            out.z = flag(p.underline());
-        }
-        Control::Unknown(a, b) => {
-            out.kind = 8;
-            out.x = a;
-            out.y = b;
-        }
+        x: x,
+        y: y,
+        z: z,
     }
-    out
+}
+
+// A control's kind, x, y and z.
+pub(crate) fn control(control: Control) -> CodeBytes {
+    match control {
+        Control::MidRow(m) => plain(3, m.number(), flag(m.underline()), 0),
+        Control::Symbol(s) => plain(4, s.place(), 0, 0),
+        Control::Command(c) => plain(5, c.number(), 0, 0),
+        Control::Tab(t) => plain(6, t.number(), 0, 0),
+        Control::Preamble(p) => plain(7, p.row(), p.code().style(), flag(p.underline())),
+        Control::Unknown(a, b) => plain(8, a, b, 0),
+    }
 }
 
 pub(crate) fn code(code: Code) -> CodeBytes {
-    let mut out = CodeBytes {
-        kind: 0,
-        field: 0,
-        channel: 0,
-        x: 0,
-        y: 0,
-        z: 0,
-    };
     match code {
-        Code::Nul => {}
+        Code::Nul => plain(0, 0, 0, 0),
         Code::Control(c) => {
-            out = control(c.code());
+            let mut out = control(c.code());
             out.field = field(c.field());
             out.channel = c.channel().id();
+            out
         }
-        Code::Letter(l) => {
-            out.kind = 1;
-            out.x = l.place();
-        }
-        Code::Unknown(b) => {
-            out.kind = 2;
-            out.x = b;
-        }
+        Code::Letter(l) => plain(1, l.place(), 0, 0),
+        Code::Unknown(b) => plain(2, b, 0, 0),
     }
-    out
 }
 
 // The colour's number, or 7 for none.
@@ -108,15 +75,10 @@ pub(crate) fn color_or_seven(c: MaybeColor) -> u8 {
 
 // Style, colour, whether there is an indent, and the indent.
 pub(crate) fn preamble_type(t: PreambleType) -> [u8; 4] {
-    let mut out = [0u8; 4];
-    out[0] = t.style();
-    out[1] = t.color().number();
+    let style = t.style();
+    let color = t.color().number();
     match t.indent() {
-        MaybeIndent::Indent(columns) => {
-            out[2] = 1;
-            out[3] = columns;
-        }
-        MaybeIndent::Absent => {}
+        MaybeIndent::Indent(columns) => [style, color, 1, columns],
+        MaybeIndent::Absent => [style, color, 0, 0],
     }
-    out
 }
