@@ -40,10 +40,10 @@ pub no-second-answer : {A B : Type 0} (outcome : A → B) → Told outcome → (
 no-second-answer outcome told d r s p q = told r s (p ∙ sym q)
 
 -- a value is not a refusal, and two refusals of different number are two
-clash : {A : Type 0} {x : A} {n : ℕ} → answer x ≡ refused n → ⊥
+pub clash : {A : Type 0} {x : A} {n : ℕ} → answer x ≡ refused n → ⊥
 clash e = let z : _≡_ {A = ℕ} 0 1 = cc in omega arith
 
-same : {A : Type 0} {x y : A} → answer x ≡ answer y → x ≡ y
+pub same : {A : Type 0} {x y : A} → answer x ≡ answer y → x ≡ y
 same e = cc
 
 pub from-data-told : Told fromDataOutcome

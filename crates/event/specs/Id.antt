@@ -1,0 +1,44 @@
+-- The caption services, from 01: 1 to 4 is field one channel one, one two, two one, two two. Refusal 6 is 01's.
+use Prim.Native.Nat.{ℕ}
+use mathlib.Core.Bool.{Bool, true, false, cond}
+use mathlib.Core.List.{List, [], _∷_}
+use mathlib.Core.Option.{Option, none, some}
+use lib.IntN.{ℤ, pos, negsuc}
+use lib.ListN.{getD}
+use Rattle.code.specs.Channel.{channelOne, channelTwo, fieldOne, fieldTwo}
+use Rattle.code.specs.Outcome.{Outcome, answer, refused}
+use Rattle.code.specs.Position.{position}
+use Rattle.code.specs.declared.channel.Channel.{Channel}
+use Rattle.code.specs.declared.channel.Field.{Field}
+use Rattle.event.specs.declared.id.FromValue.{FromValue}
+use Rattle.event.specs.declared.id.FromValue.the-variants.{Made, NoSuchId}
+use Rattle.event.specs.declared.id.Id.{Id}
+use Rattle.event.specs.declared.id.Id.the-variants.{CC1, CC2, CC3, CC4}
+
+abbrev pub idOf : Field → Channel → Id
+idOf f ch = cond (f .0) (cond (ch .0) CC1 CC2) (cond (ch .0) CC3 CC4)
+
+abbrev pub fieldOf : Id → Field
+fieldOf CC1 = fieldOne
+fieldOf CC2 = fieldOne
+fieldOf CC3 = fieldTwo
+fieldOf CC4 = fieldTwo
+
+abbrev pub channelOf : Id → Channel
+channelOf CC1 = channelOne
+channelOf CC2 = channelTwo
+channelOf CC3 = channelOne
+channelOf CC4 = channelTwo
+
+-- 6: a value outside 1 to 4
+abbrev pub fromPlace : Option ℕ → Outcome Id
+fromPlace none = refused 6
+fromPlace (some i) = answer (getD (CC1 ∷ CC2 ∷ CC3 ∷ CC4 ∷ []) i CC1)
+
+abbrev pub fromValue : ℤ → Outcome Id
+fromValue (pos n) = fromPlace (position n (1 ∷ 2 ∷ 3 ∷ 4 ∷ []))
+fromValue (negsuc n) = refused 6
+
+abbrev pub fromValueOutcome : FromValue → Outcome Id
+fromValueOutcome (Made i) = answer i
+fromValueOutcome NoSuchId = refused 6

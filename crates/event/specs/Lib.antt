@@ -1,0 +1,4 @@
+pub mod Mode
+pub mod Id
+pub mod Event
+pub mod IntoCode

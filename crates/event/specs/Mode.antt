@@ -1,0 +1,57 @@
+-- The presentation modes and the commands that begin them, from 47 CFR 79.101: resume caption loading begins pop-on,
+-- resume direct captioning paint-on, and the three roll-up commands windows of two, three and four rows.
+use Prim.Native.Nat.{ℕ}
+use mathlib.Core.Bool.{Bool, true, false}
+use mathlib.Core.Option.{Option, none, some}
+use Rattle.code.specs.declared.control.Command.{Command}
+use Rattle.code.specs.declared.control.Command.the-variants as command
+use Rattle.event.specs.declared.mode.FromCommand.{FromCommand}
+use Rattle.event.specs.declared.mode.FromCommand.the-variants.{Begins, Nothing}
+use Rattle.event.specs.declared.mode.Mode.{Mode}
+use Rattle.event.specs.declared.mode.Mode.the-variants.{PopOn, PaintOn, RollUp2, RollUp3, RollUp4}
+use Rattle.event.specs.declared.mode.RollupRows.{RollupRows}
+use Rattle.event.specs.declared.mode.RollupRows.the-variants.{Rows, Absent}
+
+abbrev pub commandOf : Mode → Command
+commandOf PopOn = command.ResumeCaptionLoading
+commandOf PaintOn = command.ResumeDirectionCaptioning
+commandOf RollUp2 = command.RollUp2
+commandOf RollUp3 = command.RollUp3
+commandOf RollUp4 = command.RollUp4
+
+abbrev pub modeOf : Command → Option Mode
+modeOf command.ResumeCaptionLoading = some PopOn
+modeOf command.Backspace = none
+modeOf command.AlarmOff = none
+modeOf command.AlarmOn = none
+modeOf command.DeleteToEndOfRow = none
+modeOf command.RollUp2 = some RollUp2
+modeOf command.RollUp3 = some RollUp3
+modeOf command.RollUp4 = some RollUp4
+modeOf command.FlashOn = none
+modeOf command.ResumeDirectionCaptioning = some PaintOn
+modeOf command.TextRestart = none
+modeOf command.ResumeTextDisplay = none
+modeOf command.EraseDisplayedMemory = none
+modeOf command.CarriageReturn = none
+modeOf command.EraseNonDisplayedMemory = none
+modeOf command.EndOfCaption = none
+
+abbrev pub fromCommandOutcome : FromCommand → Option Mode
+fromCommandOutcome (Begins m) = some m
+fromCommandOutcome Nothing = none
+
+abbrev pub rollupRows : Mode → RollupRows
+rollupRows PopOn = Absent
+rollupRows PaintOn = Absent
+rollupRows RollUp2 = Rows 2
+rollupRows RollUp3 = Rows 3
+rollupRows RollUp4 = Rows 4
+
+-- a mode is a roll-up mode where it has rows
+abbrev pub hasRows : RollupRows → Bool
+hasRows (Rows n) = true
+hasRows Absent = false
+
+abbrev pub isRollup : Mode → Bool
+isRollup m = hasRows (rollupRows m)

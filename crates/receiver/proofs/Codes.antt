@@ -1,0 +1,11 @@
+-- A character that may be absent, there and back.
+-- Assumes nothing.
+use mathlib.Core.Path.{_≡_, refl}
+use Rattle.code.specs.Code.{characterOutcome}
+use Rattle.code.specs.declared.character.Character.{Character}
+use Rattle.code.specs.declared.character.Character.the-variants as character
+use Rattle.receiver.specs.Heard.{characterFrom}
+
+pub character-back : (x : Character) → characterFrom (characterOutcome x) ≡ x
+character-back (character.Point c) = refl
+character-back character.Absent = refl

@@ -1,0 +1,87 @@
+-- What codes say, as events. What a command does is from 47 CFR 79.101; that alarms, flash, the text commands, `Unknown`
+-- and a symbol without a character give none is from 01.
+use Prim.Native.Nat.{ℕ}
+use mathlib.Core.Bool.{false}
+use mathlib.Core.Option.{Option, none, some}
+use Rattle.code.specs.Code.{charOf, controlChar, controlNeedsBackspace}
+use Rattle.code.specs.Control.{tabNumber}
+use Rattle.code.specs.Outcome.{Outcome, answer, refused}
+use Rattle.code.specs.declared.channel.Channel.{Channel}
+use Rattle.code.specs.declared.character.Character.{Character}
+use Rattle.code.specs.declared.character.Character.the-variants as character
+use Rattle.code.specs.declared.code.Code.{Code}
+use Rattle.code.specs.declared.control.Command.{Command}
+use Rattle.code.specs.declared.control.Command.the-variants as command
+use Rattle.code.specs.declared.control.Control.{Control}
+use Rattle.code.specs.declared.control.Control.the-variants as control
+use Rattle.code.specs.declared.control.ControlCode.{ControlCode}
+use Rattle.code.specs.declared.symbol.Symbol.{Symbol}
+use Rattle.event.specs.declared.event.Cea608.{Cea608}
+use Rattle.event.specs.declared.event.Cea608.the-variants as event
+use Rattle.event.specs.declared.mode.Mode.the-variants.{PopOn, PaintOn, RollUp2, RollUp3, RollUp4}
+use Rattle.receiver.specs.declared.heard.Heard.{Heard}
+use Rattle.receiver.specs.declared.heard.Heard.the-variants as heard
+
+abbrev pub commandEvent : Channel → Command → Option Cea608
+commandEvent ch command.ResumeCaptionLoading = some (event.NewMode ch PopOn)
+commandEvent ch command.Backspace = some (event.Backspace ch)
+commandEvent ch command.AlarmOff = none
+commandEvent ch command.AlarmOn = none
+commandEvent ch command.DeleteToEndOfRow = some (event.DeleteToEndOfRow ch)
+commandEvent ch command.RollUp2 = some (event.NewMode ch RollUp2)
+commandEvent ch command.RollUp3 = some (event.NewMode ch RollUp3)
+commandEvent ch command.RollUp4 = some (event.NewMode ch RollUp4)
+commandEvent ch command.FlashOn = none
+commandEvent ch command.ResumeDirectionCaptioning = some (event.NewMode ch PaintOn)
+commandEvent ch command.TextRestart = none
+commandEvent ch command.ResumeTextDisplay = none
+commandEvent ch command.EraseDisplayedMemory = some (event.EraseDisplay ch)
+commandEvent ch command.CarriageReturn = some (event.CarriageReturn ch)
+commandEvent ch command.EraseNonDisplayedMemory = some (event.EraseNonDisplay ch)
+commandEvent ch command.EndOfCaption = some (event.EndOfCaption ch)
+
+-- a character that may be absent
+abbrev pub characterFrom : Option ℕ → Character
+characterFrom none = character.Absent
+characterFrom (some c) = character.Point c
+
+-- a symbol's character, which takes the place of the one before it where the symbol is an extended one
+abbrev pub symbolText : Channel → Symbol → Option ℕ → Option Cea608
+symbolText ch s none = none
+symbolText ch s (some c) =
+    some
+    (event.Text
+    (record {
+      «needs_backspace» = controlNeedsBackspace (control.Symbol s);
+      char1 = character.Point c;
+      char2 = character.Absent;
+      channel = ch;
+    }))
+
+abbrev pub symbolEvent : Channel → Symbol → Option Cea608
+symbolEvent ch s = symbolText ch s (controlChar (control.Symbol s))
+
+abbrev pub controlEvent : Channel → Control → Option Cea608
+controlEvent ch (control.MidRow m) = some (event.MidRowChange ch m)
+controlEvent ch (control.Symbol s) = symbolEvent ch s
+controlEvent ch (control.Command c) = commandEvent ch c
+controlEvent ch (control.Tab t) = some (event.TabOffset ch (tabNumber t))
+controlEvent ch (control.Preamble p) = some (event.Preamble ch p)
+controlEvent ch (control.Unknown a b) = none
+
+abbrev pub eventOf : ControlCode → Option Cea608
+eventOf c = controlEvent (c .channel) (c .control)
+
+-- one or two characters, or nothing where there is none
+abbrev pub textOf : Channel → Option ℕ → Option ℕ → Option Cea608
+textOf ch none none = none
+textOf ch none (some d) = some (event.Text (record { «needs_backspace» = false; char1 = character.Absent; char2 = character.Point d; channel = ch }))
+textOf ch (some c) second = some (event.Text (record { «needs_backspace» = false; char1 = character.Point c; char2 = characterFrom second; channel = ch }))
+
+abbrev pub textEvent : Channel → Code → Code → Option Cea608
+textEvent ch x y = textOf ch (charOf x) (charOf y)
+
+abbrev pub heardOutcome : Heard → Outcome (Option Cea608)
+heardOutcome (heard.Event e) = answer (some e)
+heardOutcome heard.Nothing = answer none
+heardOutcome heard.InvalidParity = refused 1

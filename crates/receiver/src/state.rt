@@ -1,0 +1,173 @@
+// The receiver: what it remembers of the pairs of one field, and what a pair does to it.
+ghost use mathlib.Core.Path.{_≡_};
+ghost use Rattle.receiver.specs.Receiver.{fresh, step, decodedOutcome, heardCommand, heardText, isLast, lastField};
+ghost use Rattle.receiver.specs.Receiver.{fieldAfter};
+
+use code::Channel;
+use code::Code;
+use code::CodeField;
+use code::ControlCode;
+use code::Field;
+use code::FromData;
+use code::Pair;
+
+use crate::heard::Heard;
+use crate::heard::event_of;
+use crate::heard::text_event;
+
+// The last pair, while it may still be repeated.
+pub enum LastPair {
+    Absent,
+    Was(Pair),
+}
+
+// The channel that text goes to, once a command has named one.
+pub enum LastChannel {
+    Unknown,
+    Known(Channel),
+}
+
+// The field that a command named last.
+pub enum LastField {
+    Unknown,
+    Known(Field),
+}
+
+// A state of any contents is good.
+pub struct Cea608State {
+    pub last_data: LastPair,
+    pub last_channel: LastChannel,
+    pub last_received_field: LastField,
+}
+
+// What a pair gave, and the state after it.
+pub struct Decoded {
+    pub answer: Heard,
+    pub state: Cea608State,
+}
+
+impl Cea608State {
+    // Nothing received yet.
+    pub fn new() -> Cea608State
+        ensures { λ r. ⌜ r ≡ fresh ⌝ }
+    {
+        Cea608State {
+            last_data: LastPair::Absent,
+            last_channel: LastChannel::Unknown,
+            last_received_field: LastField::Unknown,
+        }
+    }
+
+    // Reads one pair.
+    pub fn decode(self, pair: Pair) -> Decoded
+        ensures { λ r. ⌜ decodedOutcome r ≡ step self pair ⌝ }
+    {
+        let FromData::Codes(first, second) = Code::from_data(pair) else {
+            return Decoded {
+                answer: Heard::InvalidParity,
+                state: self,
+            };
+        };
+        match first {
+            Code::Control(code) => self.command(pair, code),
+            Code::Nul => self.text(pair, first, second),
+            Code::Letter(_) => self.text(pair, first, second),
+            Code::Unknown(_) => self.text(pair, first, second),
+        }
+    }
+
+    // A command: skipped where it repeats the last pair, which then is no longer awaited.
+    pub(crate) fn command(self, pair: Pair, code: ControlCode) -> Decoded
+        ensures { λ r. ⌜ decodedOutcome r ≡ heardCommand self pair code ⌝ }
+    {
+        let last_data = self.last_data;
+        let last_channel = self.last_channel;
+        let last_field = self.last_received_field;
+        if is_last(last_data, pair) {
+            return Decoded {
+                answer: Heard::Nothing,
+                state: Cea608State {
+                    last_data: LastPair::Absent,
+                    last_channel: last_channel,
+                    last_received_field: last_field,
+                },
+            };
+        }
+        let named = code.field;
+        let field = field_after(named, last_field);
+        let channel = code.channel;
+        let answer = event_of(code);
+        Decoded {
+            answer: answer,
+            state: Cea608State {
+                last_data: LastPair::Was(pair),
+                last_channel: LastChannel::Known(channel),
+                last_received_field: field,
+            },
+        }
+    }
+
+    // Text for the last channel, or nothing while there is none.
+    pub(crate) fn text(self, pair: Pair, first: Code, second: Code) -> Decoded
+        ensures { λ r. ⌜ decodedOutcome r ≡ heardText self pair first second ⌝ }
+    {
+        let last_channel = self.last_channel;
+        let last_field = self.last_received_field;
+        let next = Cea608State {
+            last_data: LastPair::Was(pair),
+            last_channel: last_channel,
+            last_received_field: last_field,
+        };
+        let LastChannel::Known(channel) = last_channel else {
+            return Decoded {
+                answer: Heard::Nothing,
+                state: next,
+            };
+        };
+        let answer = text_event(channel, first, second);
+        Decoded {
+            answer: answer,
+            state: next,
+        }
+    }
+
+    // The field that a command named last, by which fields that were swapped can be told.
+    pub fn last_received_field(self) -> LastField
+        ensures { λ r. ⌜ r ≡ lastField self ⌝ }
+    {
+        self.last_received_field
+    }
+
+    // As if nothing had been received.
+    pub fn reset(self) -> Cea608State
+        ensures { λ r. ⌜ r ≡ fresh ⌝ }
+    {
+        Cea608State::new()
+    }
+}
+
+// Whether a pair is the last pair, both bytes as received.
+pub(crate) fn is_last(last: LastPair, pair: Pair) -> bool
+    ensures { λ r. ⌜ r ≡ isLast pair last ⌝ }
+{
+    match last {
+        LastPair::Was(before) => {
+            if before.0 == pair.0 {
+                before.1 == pair.1
+            } else {
+                false
+            }
+        }
+        LastPair::Absent => false,
+    }
+}
+
+// The field that a command names, or the one before.
+pub(crate) fn field_after(named: CodeField, before: LastField) -> LastField
+    ensures { λ r. ⌜ r ≡ fieldAfter named before ⌝ }
+{
+    match named {
+        CodeField::Of(field) => LastField::Known(field),
+        CodeField::Absent => before,
+    }
+}
