@@ -1,7 +1,7 @@
 -- Two functions that agree at each number of a range, or at each pair of a grid, by one computation: antt lists the
 -- values of both and compares.
 -- Assumes nothing.
-use mathlib.Core.Path.{_≡_, ap, subst, sym}
+use mathlib.Core.Path.{_≡_, ap, subst}
 use mathlib.Core.List.{List, [], _∷_}
 use mathlib.Core.Logic.{⊎-elim}
 use Prim.Native.Nat.{ℕ, zero, suc, _+_, _-_, _≤_, _<_}

@@ -9,4 +9,5 @@ pub mod Numbers
 pub mod OneAnswer
 pub mod RoundTrip
 pub mod TableRules
+pub mod TriedByHand
 pub mod Written

@@ -14,14 +14,12 @@ use Rattle.code.specs.Characters.{standard, symbols}
 use Rattle.code.specs.Code.{fromChar, letterCode, symbolCode}
 use Rattle.code.specs.Outcome.{Outcome, answer, refused}
 use Rattle.code.specs.Position.{position, later}
-use Rattle.code.specs.Symbol.{symbolAt}
 use Rattle.code.specs.Tables.{codeAt, codeEntries, controlAt, controlEntries, pointOf}
 use Rattle.code.specs.declared.channel.Channel.{Channel}
 use Rattle.code.specs.declared.code.Code.{Code}
 use Rattle.code.specs.declared.code.Code.the-variants as code
 use Rattle.code.specs.declared.control.CodeField.the-variants.{Absent}
 use Rattle.code.specs.declared.control.Control.{Control}
-use Rattle.code.specs.declared.control.Control.the-variants as control
 
 -- a character is found among the symbols alone, since the commands and tabs behind them have none
 none-in-zeros : (c n : ℕ) → (c ≡ 0 → ⊥) → position c (replicate n 0) ≡ none

@@ -25,9 +25,6 @@ use Rattle.code.specs.declared.control.ControlCode.{ControlCode}
 use Rattle.code.specs.declared.read.Meaning.{Meaning}
 use Rattle.code.specs.declared.read.Meaning.the-variants as meant
 
-abbrev pub channelFrom : Bool → Channel
-channelFrom t = record { 0 = t }
-
 abbrev pub inRow : ℕ → ℕ → Option Control
 inRow b row = some (control.Preamble (record { row = row; underline = underlined b; ty = styleAt (b % 32 / 2) }))
 
@@ -68,9 +65,6 @@ between false p from below = (from, below)
 pub without-field-between : (p b : ℕ) → 16 ≤ p → p < 24 → (16 ≤ withoutField p b) × (withoutField p b < 24)
 without-field-between p b from below = between (within 0x20 0x2F b && eqb p 0x15) p from below
 
-pub channel-by-bit : (a : ℕ) → a < 32 → channelFrom (ltb a 24) ≡ channelOf a
-channel-by-bit a below = agree (λ (x : ℕ). channelFrom (ltb x 24)) channelOf 32 refl a below
-
 -- a control code put together from its parts
 abbrev pub said : ℕ → ℕ → Meaning → Control
 said a b (meant.Of c) = c
@@ -80,9 +74,9 @@ said-is : (a b : ℕ) (o : Option Control) → said a b (meaningOf o) ≡ orUnkn
 said-is a b none = refl
 said-is a b (some c) = refl
 
-pub parsed : (a b p : ℕ) (f : CodeField) (r : Meaning) → 16 ≤ a → a < 32 → f ≡ fieldOf (a % 8 + 16) b → p ≡ withoutField (a % 8 + 16) b → r ≡ meaningOf (meaning p b) → _≡_ {A = ControlCode} (record { field = f; channel = channelFrom (ltb a 24); control = said a b r }) (commandOf a b)
-parsed a b p f r from below field prefix found =
-    simp (found, prefix, field, said-is, channel-by-bit a below, without-channel a from below)
+pub parsed : (a b p : ℕ) (ch : Channel) (f : CodeField) (r : Meaning) → 16 ≤ a → a < 32 → ch ≡ channelOf a → f ≡ fieldOf (a % 8 + 16) b → p ≡ withoutField (a % 8 + 16) b → r ≡ meaningOf (meaning p b) → _≡_ {A = ControlCode} (record { field = f; channel = ch; control = said a b r }) (commandOf a b)
+parsed a b p ch f r from below of-channel field prefix found =
+    simp (found, prefix, field, of-channel, said-is, without-channel a from below)
 
 -- a single byte, by the table of characters
 abbrev pub codeOr : ℕ → Option ℕ → Code

@@ -1,16 +1,19 @@
 -- The numbers of the small enums: each is below the count of cases, and the case at a case's number is that case.
 -- Assumes nothing.
 use mathlib.Core.Path.{_≡_, refl}
-use Prim.Native.Nat.{ℕ, _-_, _<_}
+use mathlib.Core.Bool.{cond}
+use mathlib.Core.Option.{none, some}
+use Prim.Native.Nat.{ℕ, _*_, _-_, _<_}
 use native.Mathlib.Nat.{lt-trans}
 use native.Mathlib.Omega.{arith}
-use lib.Dec.{lit<}
+use borrow.Author.Tests.{lt-leb, lt-ltb, ne-eqb}
+use lib.Dec.{eqb, leb, lit<, ltb}
 use Rattle.code.specs.Color.{colorAt, colorNumber}
 use Rattle.code.specs.Column.{columnAt, columnNumber}
 use Rattle.code.specs.Control.{commandAt, commandNumber, tabAt, tabNumber}
 use Rattle.code.specs.Letter.{letterPlace, letterRowAt, letterRowNumber}
 use Rattle.code.specs.MidRow.{kindNumber}
-use Rattle.code.specs.Preamble.{styleAt, styleOf}
+use Rattle.code.specs.Preamble.{colorOfStyle, indentIn, isItalics, styleAt, styleOf}
 use Rattle.code.specs.Symbol.{symbolPlace, symbolRowAt, symbolRowNumber}
 use Rattle.code.specs.declared.color.Color as color
 use Rattle.code.specs.declared.color.Color.the-variants.{White, Green, Blue, Cyan, Red, Yellow, Magenta}
@@ -136,3 +139,40 @@ letter-small l = omega (arith, letter-row-back (l .row) .0, column-back (l .colu
 
 pub symbol-small : (s : Symbol) → symbolPlace s < 80
 symbol-small s = omega (arith, symbol-row-back (s .row) .0, column-back (s .column) .0)
+
+-- what a style's number tells of it
+pub color-by-number : (t : PreambleType) → cond (ltb (styleOf t) 7) (colorAt (styleOf t)) White ≡ colorOfStyle t
+color-by-number (style.Color c) = rw (lt-ltb (colorNumber c) 7 (color-back c .0), color-back c .1)
+color-by-number style.WhiteItalics = refl
+color-by-number style.Indent0 = refl
+color-by-number style.Indent4 = refl
+color-by-number style.Indent8 = refl
+color-by-number style.Indent12 = refl
+color-by-number style.Indent16 = refl
+color-by-number style.Indent20 = refl
+color-by-number style.Indent24 = refl
+color-by-number style.Indent28 = refl
+
+pub indent-by-number : (t : PreambleType) → cond (leb 8 (styleOf t)) (some ((styleOf t - 8) * 4)) none ≡ indentIn t
+indent-by-number (style.Color c) = rw (lt-leb 8 (colorNumber c) (omega (arith, color-back c .0)))
+indent-by-number style.WhiteItalics = refl
+indent-by-number style.Indent0 = refl
+indent-by-number style.Indent4 = refl
+indent-by-number style.Indent8 = refl
+indent-by-number style.Indent12 = refl
+indent-by-number style.Indent16 = refl
+indent-by-number style.Indent20 = refl
+indent-by-number style.Indent24 = refl
+indent-by-number style.Indent28 = refl
+
+pub italics-by-number : (t : PreambleType) → eqb (styleOf t) 7 ≡ isItalics t
+italics-by-number (style.Color c) = ne-eqb (colorNumber c) 7 (λ (e : colorNumber c ≡ 7). omega (arith, color-back c .0))
+italics-by-number style.WhiteItalics = refl
+italics-by-number style.Indent0 = refl
+italics-by-number style.Indent4 = refl
+italics-by-number style.Indent8 = refl
+italics-by-number style.Indent12 = refl
+italics-by-number style.Indent16 = refl
+italics-by-number style.Indent20 = refl
+italics-by-number style.Indent24 = refl
+italics-by-number style.Indent28 = refl

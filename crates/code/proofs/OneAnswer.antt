@@ -2,16 +2,18 @@
 -- is told by its outcome, proved here for each kind of answer by its cases. (A promise that equates the answer itself
 -- with its definition has one answer as it stands.)
 -- Assumes nothing.
-use mathlib.Core.Option.{Option, none, some}
 use mathlib.Core.Path.{_≡_, refl, ap, ap₂, sym, _∙_}
 use Prim.Native.Nat.{ℕ}
 use native.Mathlib.Omega.{arith}
-use Rattle.code.specs.Code.{characterOutcome, fromCharOutcome}
-use Rattle.code.specs.Control.{tabOffsetOutcome}
-use Rattle.code.specs.Outcome.{Outcome, answer, refused}
-use Rattle.code.specs.Preamble.{fromIndentOutcome, newPreambleOutcome}
-use Rattle.code.specs.Read.{fromDataOutcome}
-use Rattle.code.specs.Write.{domainOutcome, writtenOutcome}
+use mathlib.Core.Bool.{Bool}
+use Rattle.code.specs.Code.{characterOutcome, charOf, fromChar, fromCharOutcome}
+use Rattle.code.specs.Control.{tabOffset, tabOffsetOutcome}
+use Rattle.code.specs.MidRow.{maybeColorOutcome}
+use Rattle.code.specs.Outcome.{answer, refused}
+use Rattle.code.specs.Preamble.{fromIndent, fromIndentOutcome, maybeIndentOutcome, newPreamble, newPreambleOutcome}
+use Rattle.code.specs.Read.{fromDataOutcome, readPair}
+use Rattle.code.specs.Write.{domainOutcome, inDomain, writeCode, writtenOutcome}
+use Rattle.code.specs.declared.channel.Channel.{Channel}
 use Rattle.code.specs.declared.character.Character.{Character}
 use Rattle.code.specs.declared.character.Character.the-variants as character
 use Rattle.code.specs.declared.character.FromChar.{FromChar}
@@ -19,11 +21,14 @@ use Rattle.code.specs.declared.character.FromChar.the-variants as from-c
 use Rattle.code.specs.declared.code.Code.{Code}
 use Rattle.code.specs.declared.control.TabOffset.{TabOffset}
 use Rattle.code.specs.declared.control.TabOffset.the-variants as tab
+use Rattle.code.specs.declared.midrow.MaybeColor.the-variants as color
 use Rattle.code.specs.declared.pair.Pair.{Pair}
 use Rattle.code.specs.declared.preamble.FromIndent.{FromIndent}
 use Rattle.code.specs.declared.preamble.FromIndent.the-variants as indent
+use Rattle.code.specs.declared.preamble.MaybeIndent.the-variants as columns
 use Rattle.code.specs.declared.preamble.NewPreamble.{NewPreamble}
 use Rattle.code.specs.declared.preamble.NewPreamble.the-variants as preamble
+use Rattle.code.specs.declared.preamble.PreambleType.{PreambleType}
 use Rattle.code.specs.declared.read.FromData.{FromData}
 use Rattle.code.specs.declared.read.FromData.the-variants as from-data
 use Rattle.code.specs.declared.write.Domain.{Domain}
@@ -107,3 +112,40 @@ domain-told domain.UnknownByte domain.NoSuchRow e = let z : _≡_ {A = ℕ} 2 3 
 domain-told domain.NoSuchRow domain.Inside e = absurd (clash (sym e))
 domain-told domain.NoSuchRow domain.UnknownByte e = let z : _≡_ {A = ℕ} 3 2 = cc in absurd (omega arith)
 domain-told domain.NoSuchRow domain.NoSuchRow e = refl
+
+pub maybe-color-told : Told maybeColorOutcome
+maybe-color-told (color.Color a) (color.Color b) e = cc
+maybe-color-told (color.Color a) color.Absent e = let z : _≡_ {A = ℕ} 0 1 = cc in absurd (omega arith)
+maybe-color-told color.Absent (color.Color b) e = let z : _≡_ {A = ℕ} 0 1 = cc in absurd (omega arith)
+maybe-color-told color.Absent color.Absent e = refl
+
+pub maybe-indent-told : Told maybeIndentOutcome
+maybe-indent-told (columns.Indent a) (columns.Indent b) e = cc
+maybe-indent-told (columns.Indent a) columns.Absent e = let z : _≡_ {A = ℕ} 0 1 = cc in absurd (omega arith)
+maybe-indent-told columns.Absent (columns.Indent b) e = let z : _≡_ {A = ℕ} 0 1 = cc in absurd (omega arith)
+maybe-indent-told columns.Absent columns.Absent e = refl
+
+-- each promise that is an outcome, with its one answer
+pub from-data-once : (p : Pair) (r s : FromData) → fromDataOutcome r ≡ readPair (p .0) (p .1) → fromDataOutcome s ≡ readPair (p .0) (p .1) → r ≡ s
+from-data-once p = no-second-answer fromDataOutcome from-data-told (readPair (p .0) (p .1))
+
+pub write-once : (c : Code) (r s : Written) → writtenOutcome r ≡ writeCode c → writtenOutcome s ≡ writeCode c → r ≡ s
+write-once c = no-second-answer writtenOutcome written-told (writeCode c)
+
+pub domain-once : (c : Code) (r s : Domain) → domainOutcome r ≡ inDomain c → domainOutcome s ≡ inDomain c → r ≡ s
+domain-once c = no-second-answer domainOutcome domain-told (inDomain c)
+
+pub char-once : (c : Code) (r s : Character) → characterOutcome r ≡ charOf c → characterOutcome s ≡ charOf c → r ≡ s
+char-once c = no-second-answer characterOutcome character-told (charOf c)
+
+pub from-char-once : (c : ℕ) (ch : Channel) (r s : FromChar) → fromCharOutcome r ≡ fromChar c ch → fromCharOutcome s ≡ fromChar c ch → r ≡ s
+from-char-once c ch = no-second-answer fromCharOutcome from-char-told (fromChar c ch)
+
+pub tab-offset-once : (n : ℕ) (r s : TabOffset) → tabOffsetOutcome r ≡ tabOffset n → tabOffsetOutcome s ≡ tabOffset n → r ≡ s
+tab-offset-once n = no-second-answer tabOffsetOutcome tab-offset-told (tabOffset n)
+
+pub from-indent-once : (n : ℕ) (r s : FromIndent) → fromIndentOutcome r ≡ fromIndent n → fromIndentOutcome s ≡ fromIndent n → r ≡ s
+from-indent-once n = no-second-answer fromIndentOutcome from-indent-told (fromIndent n)
+
+pub new-preamble-once : (row : ℕ) (u : Bool) (t : PreambleType) (r s : NewPreamble) → newPreambleOutcome r ≡ newPreamble row u t → newPreambleOutcome s ≡ newPreamble row u t → r ≡ s
+new-preamble-once row u t = no-second-answer newPreambleOutcome new-preamble-told (newPreamble row u t)

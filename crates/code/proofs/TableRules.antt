@@ -1,23 +1,19 @@
 -- The rules of the tables, each once over its table: the bytes rise, so that no byte or pair stands twice; an entry's
 -- bytes are read as what stands there, and what stands there is written as its bytes; a character stands in one place.
 -- Assumes nothing.
-use mathlib.Core.Bool.{Bool, true, false, cond, not, _||_}
-use mathlib.Core.List.{map}
-use mathlib.Core.Option.{Option, none, some}
+use mathlib.Core.Option.{none, some}
 use mathlib.Core.Path.{_≡_, refl}
 use Prim.Native.Nat.{ℕ, _/_, _%_, _<_}
 use lib.Count.{ones, onesIn}
-use lib.Dec.{eqb}
 use lib.ListN.{getD}
 use Rattle.code.proofs.Agree.{agree}
 use Rattle.code.proofs.Increasing.{increasing}
 use Rattle.code.specs.Characters.{standard, symbols}
-use Rattle.code.specs.Outcome.{Outcome, answer}
+use Rattle.code.specs.Outcome.{answer}
 use Rattle.code.specs.Position.{position}
 use Rattle.code.specs.Read.{meaning, rowPrefixes, single}
 use Rattle.code.specs.Tables.{bytesOf, codeAt, codeEntries, controlAt, controlEntries, Increasing}
 use Rattle.code.specs.Write.{asSingle, controlBytes, twoBytes, writeCode}
-use Rattle.code.specs.declared.control.Control.{Control}
 
 pub characters-rise : Increasing codeEntries
 unfolding codeEntries standard

@@ -2,21 +2,24 @@
 -- the code's, and the first stripped byte tells whether the pair is read as a command or as two single codes.
 -- Assumes nothing.
 use mathlib.Core.Bool.{Bool, true, false, cond, _&&_}
-use mathlib.Core.Path.{_≡_, refl, subst, sym}
-use Prim.Native.Nat.{ℕ, _+_, _<_}
+use mathlib.Core.Path.{_≡_, refl, ap, subst, sym}
+use Prim.Native.Nat.{ℕ, _+_, _-_, _<_}
 use native.Mathlib.Omega.{arith}
 use lib.Count.{ones, onesIn}
-use lib.Dec.{leb, lit<, ltb}
+use lib.Dec.{eqb, leb, lit<, ltb}
 use Rattle.code.proofs.Agree.{agree}
 use Rattle.code.specs.Code.{byteLen}
 use Rattle.code.specs.Outcome.{Outcome, answer, refused}
 use Rattle.code.specs.Parity.{isOdd, stripped, withParity}
-use Rattle.code.specs.Read.{commandOf, isCommand, readPair, single}
+use Rattle.code.proofs.OneAnswer.{clash, same}
+use Rattle.code.specs.Letter.{letterAt}
+use Rattle.code.specs.Read.{codesOf, commandOf, isCommand, readPair, single}
 use Rattle.code.specs.Write.{asCommand, asSingle, controlBytes, controlInDomain, inDomain, pair, preambleBytes, unless, writeCode}
 use Rattle.code.specs.declared.channel.Channel.{Channel}
 use Rattle.code.specs.declared.code.Code.{Code}
 use Rattle.code.specs.declared.code.Code.the-variants as code
 use Rattle.code.specs.declared.control.CodeField.{CodeField}
+use Rattle.code.specs.declared.control.ControlCode.{ControlCode}
 use Rattle.code.specs.declared.control.Control.{Control}
 use Rattle.code.specs.declared.control.Control.the-variants as control
 use Rattle.code.specs.declared.pair.Pair.{Pair}
@@ -111,3 +114,43 @@ domain-is-written code.Nul = refl
 domain-is-written (code.Control c) = control-settled (c .field) (c .channel) (c .control)
 domain-is-written (code.Letter l) = refl
 domain-is-written (code.Unknown b) = tested (ltb b 0x80) (asSingle b) 2 refl
+
+-- the data of a sent byte is the data that was written
+pub data-kept : (b : ℕ) → stripped (withParity b) ≡ stripped b
+data-kept b = kept (isOdd (stripped b)) (stripped b) (omega arith)
+  where
+    kept : (t : Bool) (s : ℕ) → s < 128 → stripped (cond t s (s + 128)) ≡ s
+    kept true s less = omega arith
+    kept false s less = omega arith
+
+-- padding is read as two NULs
+pub padding-read : readPair 0x80 0x80 ≡ answer (code.Nul, code.Nul)
+unfolding readPair ones onesIn
+padding-read = refl
+
+-- a single byte is never read as a command
+plain : (t u : Bool) (b : ℕ) (c : ControlCode) → cond t code.Nul (cond u (code.Letter (letterAt (b - 0x20))) (code.Unknown b)) ≡ code.Control c → ⊥
+plain true u b c e = let z : _≡_ {A = ℕ} 0 1 = cc in omega arith
+plain false true b c e = let z : _≡_ {A = ℕ} 0 1 = cc in omega arith
+plain false false b c e = let z : _≡_ {A = ℕ} 0 1 = cc in omega arith
+
+pub single-is-no-command : (b : ℕ) (c : ControlCode) → single b ≡ code.Control c → ⊥
+single-is-no-command b c e = plain (eqb b 0) (leb 0x20 b) b c e
+
+-- so what is read as a command has a first byte of 10 to 1F
+first-of : (t : Bool) (a b : ℕ) → Code × Code
+first-of t a b = cond t (code.Control (commandOf a b), code.Nul) (single a, single b)
+
+command-first : (t : Bool) (a b : ℕ) (c : ControlCode) → first-of t a b .0 ≡ code.Control c → t ≡ true
+unfolding first-of
+command-first true a b c e = refl
+command-first false a b c e = absurd (single-is-no-command a c e)
+
+read-passed : (t : Bool) (a b : ℕ) (c : ControlCode) (y : Code) → cond t (answer (codesOf a b)) (refused 1) ≡ answer (code.Control c, y) → isCommand a ≡ true
+unfolding first-of
+read-passed true a b c y e = command-first (isCommand a) a b c (ap (λ (w : Code × Code). w .0) (same e))
+read-passed false a b c y e = absurd (clash (sym e))
+
+pub command-by-first-byte : (a b : ℕ) (c : ControlCode) (y : Code) → readPair a b ≡ answer (code.Control c, y) → isCommand (stripped a) ≡ true
+unfolding readPair
+command-by-first-byte a b c y e = read-passed (isOdd a && isOdd b) (stripped a) (stripped b) c y e

@@ -1,6 +1,6 @@
 -- The number of a data channel, from 47 CFR 79.101, and of a field, from 01.
 use Prim.Native.Nat.{ℕ}
-use mathlib.Core.Bool.{Bool, true, false, cond}
+use mathlib.Core.Bool.{true, false, cond}
 use Rattle.code.specs.declared.channel.Channel.{Channel}
 use Rattle.code.specs.declared.channel.Field.{Field}
 

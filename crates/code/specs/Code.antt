@@ -1,5 +1,5 @@
--- What else is known of a code, from 01: its length, whether a set has to step back before it shows it, its character,
--- and the code of a character.
+-- What else is known of a code, from 01: its length, whether the queue puts a space before it, its character, and the
+-- code of a character.
 use Prim.Native.Nat.{ℕ}
 use mathlib.Core.Bool.{Bool, true, false, cond}
 use mathlib.Core.Option.{Option, none, some}

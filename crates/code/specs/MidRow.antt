@@ -1,6 +1,7 @@
 -- Mid-row codes, from 47 CFR 79.101: seven colours, then italics, each with and without an underline.
 use Prim.Native.Nat.{ℕ}
 use mathlib.Core.Bool.{Bool, true, false, cond}
+use mathlib.Core.Option.{Option, none, some}
 use lib.Dec.{ltb}
 use Rattle.code.specs.Color.{colorAt, colorNumber}
 use Rattle.code.specs.declared.color.Color.{Color}
@@ -28,12 +29,16 @@ abbrev pub midRowNumber : MidRow → ℕ
 midRowNumber m = kindNumber (m .color)
 
 -- a colour code sets the colour, and italics leave it
-abbrev pub kindColor : MidRowColor → MaybeColor
-kindColor (kind.Color c) = maybe.Color c
-kindColor kind.Italics = maybe.Absent
+abbrev pub kindColor : MidRowColor → Option Color
+kindColor (kind.Color c) = some c
+kindColor kind.Italics = none
 
-abbrev pub colorIn : MidRow → MaybeColor
+abbrev pub colorIn : MidRow → Option Color
 colorIn m = kindColor (m .color)
+
+abbrev pub maybeColorOutcome : MaybeColor → Option Color
+maybeColorOutcome (maybe.Color c) = some c
+maybeColorOutcome maybe.Absent = none
 
 abbrev pub kindItalic : MidRowColor → Bool
 kindItalic (kind.Color c) = false

@@ -1,10 +1,10 @@
 -- Preamble address codes, from 47 CFR 79.101: fifteen rows, and sixteen styles with and without an underline. The rows
 -- are counted from 0 as 01 has them, and the refusals 3 and 8 are 01's.
-use Prim.Native.Nat.{ℕ, _+_, _*_, _-_}
-use mathlib.Core.Bool.{Bool, cond}
+use Prim.Native.Nat.{ℕ, _+_, _-_}
+use mathlib.Core.Bool.{Bool, true, false, cond}
 use mathlib.Core.List.{List, [], _∷_}
 use mathlib.Core.Option.{Option, none, some}
-use lib.Dec.{eqb, leb, ltb}
+use lib.Dec.{leb, ltb}
 use lib.ListN.{getD}
 use Rattle.code.specs.Color.{colorAt, colorNumber}
 use Rattle.code.specs.Outcome.{Outcome, answer, refused}
@@ -76,11 +76,33 @@ colorType c = Colored c
 
 -- white italics and all indents are white
 abbrev pub colorOfStyle : PreambleType → Color
-colorOfStyle t = cond (ltb (styleOf t) 7) (colorAt (styleOf t)) White
+colorOfStyle (Colored c) = c
+colorOfStyle WhiteItalics = White
+colorOfStyle Indent0 = White
+colorOfStyle Indent4 = White
+colorOfStyle Indent8 = White
+colorOfStyle Indent12 = White
+colorOfStyle Indent16 = White
+colorOfStyle Indent20 = White
+colorOfStyle Indent24 = White
+colorOfStyle Indent28 = White
 
--- styles 8 to 15 are indents, by four columns each
-abbrev pub indentIn : PreambleType → MaybeIndent
-indentIn t = cond (leb 8 (styleOf t)) (Indent (4 * (styleOf t - 8))) Absent
+-- the column that an indent starts at
+abbrev pub indentIn : PreambleType → Option ℕ
+indentIn (Colored c) = none
+indentIn WhiteItalics = none
+indentIn Indent0 = some 0
+indentIn Indent4 = some 4
+indentIn Indent8 = some 8
+indentIn Indent12 = some 12
+indentIn Indent16 = some 16
+indentIn Indent20 = some 20
+indentIn Indent24 = some 24
+indentIn Indent28 = some 28
+
+abbrev pub maybeIndentOutcome : MaybeIndent → Option ℕ
+maybeIndentOutcome (Indent n) = some n
+maybeIndentOutcome Absent = none
 
 -- 3: a row above 14
 abbrev pub newPreamble : ℕ → Bool → PreambleType → Outcome PreambleAddressCode
@@ -94,9 +116,9 @@ abbrev pub rowIn : PreambleAddressCode → ℕ
 rowIn p = p .row
 
 -- a colour starts at the left
-abbrev pub columnOf : MaybeIndent → ℕ
-columnOf (Indent n) = n
-columnOf Absent = 0
+abbrev pub columnOf : Option ℕ → ℕ
+columnOf (some n) = n
+columnOf none = 0
 
 abbrev pub columnIn : PreambleAddressCode → ℕ
 columnIn p = columnOf (indentIn (p .ty))
@@ -107,8 +129,20 @@ underlineIn p = p .underline
 abbrev pub typeIn : PreambleAddressCode → PreambleType
 typeIn p = p .ty
 
+abbrev pub isItalics : PreambleType → Bool
+isItalics (Colored c) = false
+isItalics WhiteItalics = true
+isItalics Indent0 = false
+isItalics Indent4 = false
+isItalics Indent8 = false
+isItalics Indent12 = false
+isItalics Indent16 = false
+isItalics Indent20 = false
+isItalics Indent24 = false
+isItalics Indent28 = false
+
 abbrev pub italicsIn : PreambleAddressCode → Bool
-italicsIn p = eqb (styleOf (p .ty)) 7
+italicsIn p = isItalics (p .ty)
 
 abbrev pub colorInRow : PreambleAddressCode → Color
 colorInRow p = colorOfStyle (p .ty)

@@ -1,5 +1,5 @@
 -- What a pair means. 47 CFR 79.101 rules for the channel bit, the preamble, mid-row and miscellaneous codes and the
--- characters; 01 for the field that a code names, for `Unknown`, and for refusal 1.
+-- standard and special characters; 01 for the extended characters, the field that a code names, `Unknown`, and refusal 1.
 use Prim.Native.Nat.{ℕ, _+_, _*_, _-_, _/_, _%_}
 use mathlib.Core.Bool.{Bool, cond, _&&_}
 use mathlib.Core.List.{List, [], _∷_}
@@ -52,7 +52,7 @@ fieldOf p b =
 abbrev pub withoutField : ℕ → ℕ → ℕ
 withoutField p b = cond (within 0x20 0x2F b && eqb p 0x15) 0x14 p
 
--- the first two bytes of the preambles of rows 0 to 14
+-- the pair of each row's white preamble, rows 0 to 14
 abbrev pub rowPrefixes : List ℕ
 rowPrefixes =
     0x1140 ∷ 0x1160 ∷ 0x1240 ∷ 0x1260 ∷ 0x1540 ∷ 0x1560 ∷ 0x1640 ∷ 0x1660 ∷ 0x1740 ∷ 0x1760 ∷ 0x1040 ∷ 0x1340 ∷ 0x1360
@@ -70,7 +70,7 @@ preambleAt b (some row) =
 abbrev pub symbolIn : SymbolRow → ℕ → Option Control
 symbolIn r b = some (control.Symbol (record { row = r; column = columnAt (b % 16) }))
 
--- what a first byte, 10 to 17, and a second byte say together, if anything
+-- what a first byte, 10 to 17 with 15 already read as 14 where it names a field, and a second byte say together
 abbrev pub meaning : ℕ → ℕ → Option Control
 meaning p b =
     cond (eqb p 0x11 && within 0x20 0x2F b) (some (control.MidRow (midRowAt ((b - 0x20) / 2) (underlined b))))

@@ -1,6 +1,7 @@
--- The code's tables as the text has them: an entry is one number, its bytes above and its code point below. What a
--- search over a table finds, and what stands at an entry.
-use Prim.Native.Nat.{ℕ, zero, suc, _+_, _*_, _-_, _/_, _%_, _<_}
+-- How the code lays its tables out, which no public promise mentions: an entry is one number, its bytes above and its
+-- code point below. The laws of `proofs/Meaning` and `proofs/TableRules` tie it to the definitions of `Read`, `Write` and
+-- `Characters`.
+use Prim.Native.Nat.{ℕ, suc, _+_, _*_, _-_, _/_, _%_, _<_}
 use mathlib.Core.Bool.{cond}
 use mathlib.Core.List.{List, [], _∷_, _++_}
 use mathlib.Core.Option.{Option, none, some}

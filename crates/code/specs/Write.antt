@@ -21,7 +21,6 @@ use Rattle.code.specs.declared.control.CodeField.{CodeField}
 use Rattle.code.specs.declared.control.CodeField.the-variants.{Of, Absent}
 use Rattle.code.specs.declared.control.Control.{Control}
 use Rattle.code.specs.declared.control.Control.the-variants as control
-use Rattle.code.specs.declared.control.ControlCode.{ControlCode}
 use Rattle.code.specs.declared.midrow.MidRow.{MidRow}
 use Rattle.code.specs.declared.pair.Pair.{Pair}
 use Rattle.code.specs.declared.preamble.PreambleAddressCode.{PreambleAddressCode}
@@ -109,7 +108,7 @@ writtenOutcome (Made p n) = answer (p, n)
 writtenOutcome UnknownByte = refused 2
 writtenOutcome NoSuchRow = refused 3
 
--- a code that can be written: 2 and 3 as above
+-- an answer where the test passes, else the refusal
 abbrev pub unless : Bool → ℕ → Outcome Unit
 unless true n = answer tt
 unless false n = refused n
@@ -122,6 +121,7 @@ controlInDomain (control.Tab t) = answer tt
 controlInDomain (control.Preamble p) = unless (leb (p .row) 14) 3
 controlInDomain (control.Unknown a b) = unless (ltb a 0x80 && ltb b 0x80) 2
 
+-- a code that can be written: 2 and 3 as above
 unfoldable pub inDomain : Code → Outcome Unit
 inDomain code.Nul = answer tt
 inDomain (code.Control c) = controlInDomain (c .control)

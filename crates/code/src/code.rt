@@ -13,7 +13,7 @@ pub enum Code {
     Control(ControlCode),
     // One byte that a set shows.
     Letter(Letter),
-    // One byte below 0x20 that means nothing here.
+    // One byte that means nothing here. Reading gives 01 to 1F.
     Unknown(u8),
 }
 
@@ -30,7 +30,8 @@ impl Code {
         }
     }
 
-    // Whether a set that does not know the code has shown something before it, which the code then takes back.
+    // Whether the queue puts a space before it. An extended character takes the place of the character before it; for
+    // mid-row codes, which take a column of their own, it is the crate's choice.
     pub fn needs_backspace(self) -> bool
         ensures { λ r. ⌜ r ≡ needsBackspace self ⌝ }
     {

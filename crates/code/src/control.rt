@@ -28,7 +28,7 @@ pub enum Command {
     RollUp3,
     // Roll-up captions of four rows.
     RollUp4,
-    // What follows flashes.
+    // What follows flashes; it takes a column.
     FlashOn,
     // Paint-on: what follows shows as it comes.
     ResumeDirectionCaptioning,
@@ -42,7 +42,7 @@ pub enum Command {
     CarriageReturn,
     // The captions being loaded go.
     EraseNonDisplayedMemory,
-    // Pop-on: what was loaded shows.
+    // Pop-on: what was loaded shows, and what was shown goes out of sight.
     EndOfCaption,
 }
 
@@ -69,7 +69,7 @@ pub enum TabOffset {
     NoSuchTab,
 }
 
-// The field that a control code names. Only 14 and 15 before 20 to 2F name one.
+// The field that a control code names. In reading, only 14 and 15 before 20 to 2F name one.
 pub enum CodeField {
     Of(Field),
     Absent,

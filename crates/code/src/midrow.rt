@@ -1,7 +1,7 @@
 // Mid-row codes: a change of colour, italics or underline within a row. A set shows one as a space.
 ghost use mathlib.Core.Path.{_≡_};
 ghost use Prim.Native.Nat.{_<_};
-ghost use Rattle.code.specs.MidRow.{midRowAt, midRowNumber, colored, italic, colorIn, isItalic, isUnderlined};
+ghost use Rattle.code.specs.MidRow.{midRowAt, midRowNumber, colored, italic, colorIn, maybeColorOutcome, isItalic, isUnderlined};
 use crate::color::Color;
 
 pub enum MidRowColor {
@@ -43,7 +43,7 @@ impl MidRow {
 
     // The colour set, or none.
     pub fn color(self) -> MaybeColor
-        ensures { λ r. ⌜ r ≡ colorIn self ⌝ }
+        ensures { λ r. ⌜ maybeColorOutcome r ≡ colorIn self ⌝ }
     {
         let kind = self.color;
         match kind {

@@ -1,7 +1,7 @@
 // Preamble address codes: where a row of captions starts and what it looks like.
 ghost use mathlib.Core.Path.{_≡_};
 ghost use Prim.Native.Nat.{_<_};
-ghost use Rattle.code.specs.Preamble.{styleAt, plainStyleAt, styleOf, colorType, colorOfStyle, indentIn, fromIndent, fromIndentOutcome};
+ghost use Rattle.code.specs.Preamble.{styleAt, plainStyleAt, styleOf, colorType, colorOfStyle, indentIn, maybeIndentOutcome, fromIndent, fromIndentOutcome};
 ghost use Rattle.code.specs.Preamble.{newPreamble, newPreambleOutcome, rowIn, columnIn, typeIn, underlineIn, italicsIn, colorInRow};
 use crate::color::Color;
 
@@ -19,7 +19,7 @@ pub enum PreambleType {
     Indent28,
 }
 
-// The columns that a style moves the cursor by; a colour has none.
+// The column that an indent starts at; a colour and white italics have none.
 pub enum MaybeIndent {
     Indent(u8),
     Absent,
@@ -65,7 +65,7 @@ impl PreambleType {
 
     // The indent of this style, or none.
     pub fn indent(self) -> MaybeIndent
-        ensures { λ r. ⌜ r ≡ indentIn self ⌝ }
+        ensures { λ r. ⌜ maybeIndentOutcome r ≡ indentIn self ⌝ }
     {
         let style = self.style();
         if style < 8 {

@@ -1,7 +1,7 @@
 // Reading a pair: what was received becomes a command, or two single codes.
 ghost use mathlib.Core.Path.{_≡_};
 ghost use Prim.Native.Nat.{_≤_, _<_, _%_};
-ghost use Rattle.code.specs.Read.{readPair, fromDataOutcome, single, commandOf, fieldOf, withoutField, meaning};
+ghost use Rattle.code.specs.Read.{readPair, fromDataOutcome, single, channelOf, commandOf, fieldOf, withoutField, meaning};
 ghost use Rattle.code.specs.Tables.{codeAt, controlAt, firstRowAt, meaningOf};
 use crate::channel::Channel;
 use crate::channel::Field;
@@ -90,7 +90,7 @@ impl ControlCode {
         requires { ⌜ (16 ≤ first) × (first < 32) × (second < 128) ⌝ }
         ensures { λ r. ⌜ r ≡ commandOf first second ⌝ }
     {
-        let channel = Channel(first < 0x18);
+        let channel = channel_of(first);
         let prefix = first % 8 + 0x10;
         let field = field_of(prefix, second);
         let control = match Control::parse(without_field(prefix, second), second) {
@@ -102,6 +102,17 @@ impl ControlCode {
             channel: channel,
             control: control,
         }
+    }
+}
+
+// The channel of a first byte: 10 to 17 is one, 18 to 1F two.
+pub(crate) fn channel_of(first: u8) -> Channel
+    ensures { λ r. ⌜ r ≡ channelOf first ⌝ }
+{
+    if first < 0x18 {
+        Channel::ONE
+    } else {
+        Channel::TWO
     }
 }
 

@@ -6,7 +6,7 @@ ghost use Rattle.code.specs.Position.{position};
 ghost use Rattle.code.specs.Tables.{bytesOf, pointOf, foundAt, Increasing};
 use crate::pair::Pair;
 
-// The first two bytes of each row's preambles, in row order 0 to 14: the style and the underline are added to the second.
+// The pair of each row's white preamble, in row order 0 to 14: the style and the underline are added to the second byte.
 pub(crate) const ROW_PREFIXES: [Pair; 15] = [
     Pair(0x11, 0x40),
     Pair(0x11, 0x60),

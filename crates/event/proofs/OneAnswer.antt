@@ -6,13 +6,12 @@ use native.Mathlib.Omega.{arith}
 use Rattle.code.proofs.OneAnswer.{Told, clash}
 use Rattle.event.specs.Id.{fromValueOutcome}
 use Rattle.event.specs.IntoCode.{intoCodeOutcome}
-use Rattle.event.specs.Mode.{fromCommandOutcome}
-use Rattle.event.specs.declared.id.FromValue.{FromValue}
+use Rattle.event.specs.Mode.{fromCommandOutcome, rollupRowsOutcome}
 use Rattle.event.specs.declared.id.FromValue.the-variants as value
-use Rattle.event.specs.declared.into_code.IntoCode.{IntoCode}
 use Rattle.event.specs.declared.into_code.IntoCode.the-variants as into
-use Rattle.event.specs.declared.mode.FromCommand.{FromCommand}
 use Rattle.event.specs.declared.mode.FromCommand.the-variants as from
+use Rattle.event.specs.declared.mode.RollupRows.{RollupRows}
+use Rattle.event.specs.declared.mode.RollupRows.the-variants as rows
 
 pub from-value-told : Told fromValueOutcome
 from-value-told (value.Made x) (value.Made y) e = cc
@@ -25,6 +24,12 @@ from-command-told (from.Begins m) (from.Begins n) e = cc
 from-command-told (from.Begins m) from.Nothing e = let z : _≡_ {A = ℕ} 0 1 = cc in absurd (omega arith)
 from-command-told from.Nothing (from.Begins n) e = let z : _≡_ {A = ℕ} 0 1 = cc in absurd (omega arith)
 from-command-told from.Nothing from.Nothing e = refl
+
+pub rollup-rows-told : Told rollupRowsOutcome
+rollup-rows-told (rows.Rows m) (rows.Rows n) e = cc
+rollup-rows-told (rows.Rows m) rows.Absent e = let z : _≡_ {A = ℕ} 0 1 = cc in absurd (omega arith)
+rollup-rows-told rows.Absent (rows.Rows n) e = let z : _≡_ {A = ℕ} 0 1 = cc in absurd (omega arith)
+rollup-rows-told rows.Absent rows.Absent e = refl
 
 pub into-code-told : Told intoCodeOutcome
 into-code-told (into.Codes a b) (into.Codes x y) e = cc

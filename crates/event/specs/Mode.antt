@@ -41,17 +41,21 @@ abbrev pub fromCommandOutcome : FromCommand → Option Mode
 fromCommandOutcome (Begins m) = some m
 fromCommandOutcome Nothing = none
 
-abbrev pub rollupRows : Mode → RollupRows
-rollupRows PopOn = Absent
-rollupRows PaintOn = Absent
-rollupRows RollUp2 = Rows 2
-rollupRows RollUp3 = Rows 3
-rollupRows RollUp4 = Rows 4
+abbrev pub rollupRows : Mode → Option ℕ
+rollupRows PopOn = none
+rollupRows PaintOn = none
+rollupRows RollUp2 = some 2
+rollupRows RollUp3 = some 3
+rollupRows RollUp4 = some 4
+
+abbrev pub rollupRowsOutcome : RollupRows → Option ℕ
+rollupRowsOutcome (Rows n) = some n
+rollupRowsOutcome Absent = none
 
 -- a mode is a roll-up mode where it has rows
-abbrev pub hasRows : RollupRows → Bool
-hasRows (Rows n) = true
-hasRows Absent = false
+abbrev pub hasRows : Option ℕ → Bool
+hasRows (some n) = true
+hasRows none = false
 
 abbrev pub isRollup : Mode → Bool
 isRollup m = hasRows (rollupRows m)

@@ -1,13 +1,11 @@
 // The events, as the crate names them.
 ghost use mathlib.Core.Path.{_≡_};
 ghost use Rattle.event.specs.Event.{channelIn};
-
+use crate::mode::Mode;
 use code::Channel;
 use code::Character;
 use code::MidRow;
 use code::PreambleAddressCode;
-
-use crate::mode::Mode;
 
 // One or two characters for a channel.
 pub struct Text {

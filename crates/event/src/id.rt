@@ -1,7 +1,6 @@
 // The four caption services: a field and a channel within it.
 ghost use mathlib.Core.Path.{_≡_};
 ghost use Rattle.event.specs.Id.{idOf, fieldOf, channelOf, fromValue, fromValueOutcome};
-
 use code::Channel;
 use code::Field;
 

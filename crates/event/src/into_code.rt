@@ -2,7 +2,8 @@
 ghost use mathlib.Core.Path.{_≡_};
 ghost use Rattle.event.specs.IntoCode.{codesOf, intoCodeOutcome, textCodes, tabCodes, preambleCodes, alone, commandAlone};
 ghost use Rattle.event.specs.IntoCode.{characterCode, characterCodeOutcome};
-
+use crate::event::Cea608;
+use crate::event::Text;
 use code::Channel;
 use code::Character;
 use code::Code;
@@ -14,9 +15,6 @@ use code::Field;
 use code::FromChar;
 use code::PreambleAddressCode;
 use code::TabOffset;
-
-use crate::event::Cea608;
-use crate::event::Text;
 
 // The codes of an event, or why it has none: `NoSuchRow` is refusal 3, `NoSuchTab` 4, and `NoSuchFirst` and
 // `NoSuchSecond` are 5, for the first and for the second character.
@@ -42,15 +40,35 @@ impl Cea608 {
         match self {
             Cea608::Text(text) => text.into_code(),
             Cea608::NewMode(channel, mode) => command_alone(field, channel, mode.command()),
-            Cea608::EraseDisplay(channel) => command_alone(field, channel, Command::EraseDisplayedMemory),
-            Cea608::EraseNonDisplay(channel) => command_alone(field, channel, Command::EraseNonDisplayedMemory),
-            Cea608::CarriageReturn(channel) => command_alone(field, channel, Command::CarriageReturn),
+            Cea608::EraseDisplay(channel) => command_alone(
+                field,
+                channel,
+                Command::EraseDisplayedMemory,
+            ),
+            Cea608::EraseNonDisplay(channel) => command_alone(
+                field,
+                channel,
+                Command::EraseNonDisplayedMemory,
+            ),
+            Cea608::CarriageReturn(channel) => command_alone(
+                field,
+                channel,
+                Command::CarriageReturn,
+            ),
             Cea608::Backspace(channel) => command_alone(field, channel, Command::Backspace),
             Cea608::EndOfCaption(channel) => command_alone(field, channel, Command::EndOfCaption),
             Cea608::TabOffset(channel, count) => tab_alone(field, channel, count),
-            Cea608::DeleteToEndOfRow(channel) => command_alone(field, channel, Command::DeleteToEndOfRow),
+            Cea608::DeleteToEndOfRow(channel) => command_alone(
+                field,
+                channel,
+                Command::DeleteToEndOfRow,
+            ),
             Cea608::Preamble(channel, preamble) => preamble_alone(field, channel, preamble),
-            Cea608::MidRowChange(channel, mid_row) => control_alone(field, channel, Control::MidRow(mid_row)),
+            Cea608::MidRowChange(channel, mid_row) => control_alone(
+                field,
+                channel,
+                Control::MidRow(mid_row),
+            ),
         }
     }
 }
@@ -86,7 +104,11 @@ pub(crate) fn tab_alone(field: Field, channel: Channel, count: u8) -> IntoCode
 }
 
 // A preamble of a row of 0 to 14.
-pub(crate) fn preamble_alone(field: Field, channel: Channel, preamble: PreambleAddressCode) -> IntoCode
+pub(crate) fn preamble_alone(
+    field: Field,
+    channel: Channel,
+    preamble: PreambleAddressCode,
+) -> IntoCode
     ensures { λ r. ⌜ intoCodeOutcome r ≡ preambleCodes field channel preamble ⌝ }
 {
     let row = preamble.row;

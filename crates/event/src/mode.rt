@@ -1,7 +1,6 @@
 // The presentation modes: how captions come onto the screen.
 ghost use mathlib.Core.Path.{_≡_};
-ghost use Rattle.event.specs.Mode.{isRollup, rollupRows, commandOf, modeOf, fromCommandOutcome};
-
+ghost use Rattle.event.specs.Mode.{isRollup, rollupRows, rollupRowsOutcome, commandOf, modeOf, fromCommandOutcome};
 use code::Command;
 
 pub enum Mode {
@@ -82,7 +81,7 @@ impl Mode {
 
     // The rows of the roll-up window, or none.
     pub fn rollup_rows(self) -> RollupRows
-        ensures { λ r. ⌜ r ≡ rollupRows self ⌝ }
+        ensures { λ r. ⌜ rollupRowsOutcome r ≡ rollupRows self ⌝ }
     {
         match self {
             Mode::PopOn => RollupRows::Absent,

@@ -1,1 +1,5 @@
 pub mod Codes
+pub mod Copies
+pub mod FrameRate
+pub mod OneAnswer
+pub mod Step

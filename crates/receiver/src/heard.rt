@@ -2,7 +2,6 @@
 ghost use mathlib.Core.Path.{_≡_};
 ghost use Rattle.receiver.specs.Heard.{heardOutcome, eventOf, commandEvent, symbolEvent, textEvent};
 ghost use Rattle.code.specs.Outcome.{answer};
-
 use code::Channel;
 use code::Character;
 use code::Code;

@@ -2,7 +2,9 @@
 ghost use mathlib.Core.Path.{_≡_};
 ghost use Rattle.receiver.specs.Receiver.{fresh, step, decodedOutcome, heardCommand, heardText, isLast, lastField};
 ghost use Rattle.receiver.specs.Receiver.{fieldAfter};
-
+use crate::heard::Heard;
+use crate::heard::event_of;
+use crate::heard::text_event;
 use code::Channel;
 use code::Code;
 use code::CodeField;
@@ -10,10 +12,6 @@ use code::ControlCode;
 use code::Field;
 use code::FromData;
 use code::Pair;
-
-use crate::heard::Heard;
-use crate::heard::event_of;
-use crate::heard::text_event;
 
 // The last pair, while it may still be repeated.
 pub enum LastPair {

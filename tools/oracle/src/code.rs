@@ -2,7 +2,7 @@
 //! crate says; only a refusal's number, which the crate does not have, is put to its refusal.
 
 use crate::names::mid_row;
-use crate::panics::ask;
+use crate::panics::{ask, UNREACHABLE};
 use crate::transcript::Transcript;
 use crate::values::{
     channel_byte, code_bytes, colour_byte, control_bytes, field_byte, mid_row_colour_byte,
@@ -13,13 +13,14 @@ use cea608_types::tables::{
     PreambleType,
 };
 
-/// The numbers of the refusals that the code layer gives.
-mod refusal {
+/// The numbers of the refusals.
+pub mod refusal {
     pub const PARITY: u8 = 1;
     pub const UNKNOWN_WITH_HIGH_BYTE: u8 = 2;
     pub const ROW: u8 = 3;
     pub const TAB: u8 = 4;
     pub const CHARACTER: u8 = 5;
+    pub const ID: u8 = 6;
     pub const INDENT: u8 = 8;
 }
 
@@ -37,7 +38,7 @@ pub fn read_pair(to: &mut Transcript, pair: [u8; 2]) {
 }
 
 /// What a code is written as and its length, or the number of the refusal.
-fn written(code: Code) -> Result<([u8; 2], u8), u8> {
+pub fn written(code: Code) -> Result<([u8; 2], u8), u8> {
     let answer = ask(|| {
         let mut bytes = [0; 2];
         let length = code.write_into(&mut bytes);
@@ -55,7 +56,7 @@ fn refusal_of_writing(code: Code, panic: &str) -> u8 {
                 control: Control::PreambleAddress(_),
                 ..
             }),
-            "internal error: entered unreachable code",
+            UNREACHABLE,
         ) => refusal::ROW,
         _ => panic!("writing {code:?}, the crate panics: {panic}"),
     }
@@ -86,12 +87,18 @@ pub fn needs_backspace(to: &mut Transcript, code: Code) {
     to.add(0x05, &code_bytes(code), &[code.needs_backspace().into()]);
 }
 
+/// A code is in the domain where the crate can write it.
+pub fn domain_of_code(to: &mut Transcript, code: Code) {
+    to.add(0x10, &code_bytes(code), &[written(code).err().unwrap_or(0)]);
+}
+
 /// All that can be asked of a code.
 pub fn ask_of_code(to: &mut Transcript, code: Code) {
     write_code(to, code);
     character_of_code(to, code);
     length_of_code(to, code);
     needs_backspace(to, code);
+    domain_of_code(to, code);
 }
 
 /// A number that is no `char` of Rust cannot be put to the crate, and no code has it.

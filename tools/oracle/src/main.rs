@@ -4,32 +4,46 @@
 //!     oracle make SET QUERIES ANSWERS      writes a set's queries and the crate's answers
 //!     oracle compare QUERIES ANSWERS GOT   compares what `replay` wrote with the crate's answers
 //!
-//! A layer above the code layer adds its queries in a module like `code`, and its sets to `SETS`.
+//! A set that is chosen at random is made from a seed, which is printed; SEED names another one.
+//! A layer above adds its queries and sets in a module of its own, and the sets to `SETS`.
 
 mod code;
 mod code_sets;
+mod event;
 mod names;
 mod panics;
 mod random;
+mod receiver;
 mod sample;
 mod transcript;
 mod values;
 
+use random::{Random, SEED};
 use std::fs::{read, write};
 use std::process::exit;
 use transcript::Transcript;
+use Fill::{FromSeed, Whole};
 
 const USAGE: &str = "usage: oracle sets | make SET QUERIES ANSWERS | compare QUERIES ANSWERS GOT";
 
-type Set = (&'static str, fn(&mut Transcript));
+/// A set goes through the whole of what it asks about, or makes a choice from a seed.
+enum Fill {
+    Whole(fn(&mut Transcript)),
+    FromSeed(fn(&mut Transcript, &mut Random)),
+}
 
-const SETS: [Set; 6] = [
-    ("sample", sample::sample),
-    ("pairs", code_sets::pairs),
-    ("singles", code_sets::singles),
-    ("controls", code_sets::controls),
-    ("from_char", code_sets::from_char),
-    ("constructors", code_sets::constructors),
+const SETS: [(&str, Fill); 11] = [
+    ("sample", Whole(sample::sample)),
+    ("pairs", Whole(code_sets::pairs)),
+    ("singles", Whole(code_sets::singles)),
+    ("controls", Whole(code_sets::controls)),
+    ("from_char", Whole(code_sets::from_char)),
+    ("constructors", Whole(code_sets::constructors)),
+    ("events", Whole(event::events)),
+    ("texts", Whole(event::texts)),
+    ("modes_and_ids", Whole(event::modes_and_ids)),
+    ("after_every_pair", Whole(receiver::after_every_pair)),
+    ("sequences", FromSeed(receiver::sequences)),
 ];
 
 fn main() {
@@ -61,9 +75,23 @@ fn make(set: &str, queries: &str, answers: &str) -> Result<(), String> {
         .find(|(name, _)| *name == set)
         .ok_or_else(|| format!("there is no set {set}"))?;
     let mut transcript = Transcript::default();
-    fill(&mut transcript);
+    match fill {
+        Whole(fill) => fill(&mut transcript),
+        FromSeed(fill) => {
+            let seed = seed()?;
+            print!("from seed {seed}: ");
+            fill(&mut transcript, &mut Random::from_seed(seed));
+        }
+    }
     save(queries, &transcript.queries)?;
     save(answers, &transcript.answers)
+}
+
+fn seed() -> Result<u64, String> {
+    match std::env::var("SEED") {
+        Ok(text) => text.parse().map_err(|error| format!("SEED: {error}")),
+        Err(_) => Ok(SEED),
+    }
 }
 
 fn compare(queries: &str, answers: &str, got: &str) -> Result<(), String> {

@@ -3,6 +3,7 @@
 //! code at the wrong bytes in the crate is seen as a difference.
 
 use cea608_types::tables::{Code, Color, Control, MidRow, PreambleType};
+use cea608_types::{Id, Mode};
 
 pub const COLOURS: [Color; 7] = [
     Color::White,
@@ -276,3 +277,14 @@ pub const TABS: [Control; 3] = [
     Control::TabOffset2,
     Control::TabOffset3,
 ];
+
+pub const MODES: [Mode; 5] = [
+    Mode::PopOn,
+    Mode::PaintOn,
+    Mode::RollUp2,
+    Mode::RollUp3,
+    Mode::RollUp4,
+];
+
+/// The services, 1 to 4.
+pub const IDS: [Id; 4] = [Id::CC1, Id::CC2, Id::CC3, Id::CC4];

@@ -4,6 +4,10 @@ use std::any::Any;
 use std::panic::{catch_unwind, set_hook, take_hook, AssertUnwindSafe};
 use std::sync::atomic::{AtomicBool, Ordering};
 
+/// What the crate's `unreachable!()` and its `unwrap()` say.
+pub const UNREACHABLE: &str = "internal error: entered unreachable code";
+pub const UNWRAPPED: &str = "called `Option::unwrap()` on a `None` value";
+
 /// Whether the crate is being asked, so that only its panics stay silent.
 static ASKING: AtomicBool = AtomicBool::new(false);
 

@@ -3,12 +3,16 @@
 
 use crate::code::*;
 use crate::code_sets::{table_characters, CHANNELS, FIELDS, FIELDS_OR_NONE, FLAGS};
-use crate::names::{COLOURS, COMMANDS, LETTERS, MID_ROW_COLOURS, STYLES, SYMBOLS, TABS};
-use crate::random::Random;
+use crate::event::{
+    ask_of_event, codes_of_numbers, commands, control_event, id_of_field_and_channel, id_of_value,
+    mode, mode_of_command, parts, text, without_code,
+};
+use crate::names::{COLOURS, COMMANDS, LETTERS, MID_ROW_COLOURS, MODES, STYLES, SYMBOLS, TABS};
+use crate::random::{Random, SEED};
+use crate::receiver::{sequence, Receiver, PADDING};
 use crate::transcript::Transcript;
 use cea608_types::tables::{Channel, Code, Control, Field};
-
-const SEED: u64 = 608;
+use cea608_types::Cea608;
 
 pub fn sample(to: &mut Transcript) {
     let mut random = Random::from_seed(SEED);
@@ -30,6 +34,10 @@ pub fn sample(to: &mut Transcript) {
     ] {
         parity(to, byte);
     }
+    events(to);
+    texts(to);
+    modes_and_services(to);
+    pairs_received(to, &mut random);
 }
 
 /// Adds parity to two stripped bytes and asks for the pair.
@@ -204,9 +212,7 @@ fn characters(to: &mut Transcript) {
 /// What looks like a character of the tables, or would be one with its high bits dropped, and
 /// numbers that are no character at all.
 fn no_characters(to: &mut Transcript, random: &mut Random) {
-    const LIKE: &str = "\0\u{A0}`´¦■⌜ⓇⒸÿЖ€\u{FFFD}🎵\u{10041}";
-    const NUMBERS: [u32; 5] = [0xD800, 0xDFFF, 0x11_0000, 0x8000_0041, 0xFFFF_FFFF];
-    for code_point in LIKE.chars().map(u32::from).chain(NUMBERS) {
+    for code_point in without_code() {
         for channel in CHANNELS {
             code_of_character(to, code_point, channel);
         }
@@ -254,5 +260,116 @@ fn constructors_of_controls(to: &mut Transcript) {
     }
     for count in (0..=4).chain([0xFF]) {
         tab_of_count(to, count);
+    }
+}
+
+/// One of each event, the edges of tabs and rows, and those that are refused.
+fn events(to: &mut Transcript) {
+    for event in commands(Channel::TWO) {
+        ask_of_event(to, event);
+    }
+    for count in [0, 1, 2, 3, 4, 0xFF] {
+        ask_of_event(to, Cea608::TabOffset(Channel::ONE, count));
+    }
+    for row in [0, 4, 14, 15, 0xFF] {
+        let code = preamble_code(row, STYLES[7], true);
+        ask_of_event(to, control_event(Channel::TWO, code));
+    }
+    for colour in [0, 6, 7] {
+        let code = mid_row_code(colour, true);
+        ask_of_event(to, control_event(Channel::ONE, code));
+    }
+}
+
+/// Characters of both tables in either place, and characters without a code in either and in both.
+fn texts(to: &mut Transcript) {
+    const GOOD: [Option<char>; 3] = [None, Some('’'), Some('┘')];
+    for (first, part) in GOOD.into_iter().zip(parts()) {
+        for second in GOOD {
+            ask_of_event(to, text([first, second], part));
+        }
+    }
+    for (bad, part) in without_code().zip(parts().cycle()) {
+        codes_of_numbers(to, [Some(bad), Some('A'.into())], part);
+        codes_of_numbers(to, [Some('A'.into()), Some(bad)], part);
+    }
+    for part in parts() {
+        codes_of_numbers(to, [Some('`'.into()), Some('€'.into())], part);
+    }
+}
+
+fn modes_and_services(to: &mut Transcript) {
+    for value in MODES {
+        mode(to, value);
+    }
+    for command in COMMANDS {
+        mode_of_command(to, command);
+    }
+    for value in [0x00, 0x01, 0x02, 0x03, 0x04, 0x05, 0x7F, 0x80, 0x81, 0xFF] {
+        id_of_value(to, value);
+    }
+    for field in FIELDS {
+        for channel in CHANNELS {
+            id_of_field_and_channel(to, field, channel);
+        }
+    }
+}
+
+/// The listing's case of the papers.
+const LISTED: [[u8; 2]; 11] = [
+    [0x94, 0x25],
+    [0x94, 0x25],
+    [0x94, 0xAD],
+    [0x94, 0xAD],
+    [0x94, 0x70],
+    [0xC8, 0xE9],
+    [0x48, 0xE9],
+    [0x80, 0x80],
+    [0x91, 0x37],
+    [0x92, 0x20],
+    [0x9D, 0x20],
+];
+
+/// What stands between two copies of a command decides whether the second acts: nothing, a copy,
+/// padding, text, a hit on a copy, a hit on text, the other channel's and the other field's.
+const BETWEEN: [&[[u8; 2]]; 8] = [
+    &[],
+    &[[0x94, 0x25]],
+    &[PADDING],
+    &[[0xC8, 0xE9]],
+    &[[0x14, 0x25]],
+    &[[0x48, 0xE9]],
+    &[[0x1C, 0x25]],
+    &[[0x15, 0x25]],
+];
+
+/// Pairs that give no event: alarms, flash, the text commands, `Unknown`, the transparent space,
+/// and single codes without a character.
+const SILENT: [[u8; 2]; 8] = [
+    [0x94, 0xA2],
+    [0x94, 0x23],
+    [0x94, 0xA8],
+    [0x94, 0x2A],
+    [0x94, 0xAB],
+    [0x10, 0xE0],
+    [0x91, 0xB9],
+    [0x01, 0x02],
+];
+
+fn pairs_received(to: &mut Transcript, random: &mut Random) {
+    let mut receiver = Receiver::fresh(to);
+    receiver.decode_all(&[[0xC8, 0xE9], PADDING]);
+    receiver.reset();
+    receiver.decode_all(&LISTED);
+    for between in BETWEEN {
+        receiver.reset();
+        receiver.decode([0x94, 0x25]);
+        receiver.decode_all(between);
+        receiver.decode([0x94, 0x25]);
+    }
+    receiver.reset();
+    receiver.decode_all(&SILENT);
+    for length in [1, 2, 3, 60] {
+        sequence(&mut receiver, random, length);
     }
 }

@@ -1,7 +1,10 @@
 //! The crate's values as the bytes of docs/REPLAY.md, found by comparing with the lists of names.
 
-use crate::names::{mid_row, COLOURS, COMMANDS, LETTERS, MID_ROW_COLOURS, STYLES, SYMBOLS, TABS};
+use crate::names::{
+    mid_row, COLOURS, COMMANDS, IDS, LETTERS, MID_ROW_COLOURS, MODES, STYLES, SYMBOLS, TABS,
+};
 use cea608_types::tables::{Channel, Code, Color, Control, Field, MidRow, PreambleType};
+use cea608_types::{Cea608, Id, Mode, Text};
 
 pub fn channel_byte(channel: Channel) -> u8 {
     match channel {
@@ -31,6 +34,18 @@ pub fn mid_row_colour_byte(code: MidRow) -> u8 {
 
 pub fn style_byte(style: PreambleType) -> u8 {
     place(&STYLES, style).expect("every style has a name here")
+}
+
+pub fn command_byte(command: Control) -> u8 {
+    place(&COMMANDS, command).expect("every command has a name here")
+}
+
+pub fn mode_byte(mode: Mode) -> u8 {
+    place(&MODES, mode).expect("every mode has a name here")
+}
+
+pub fn id_byte(id: Id) -> u8 {
+    1 + place(&IDS, id).expect("every service has a name here")
 }
 
 pub fn tab_byte(tab: Control) -> u8 {
@@ -82,6 +97,63 @@ pub fn code_bytes(code: Code) -> [u8; 6] {
             [1, 0, 0, place, 0, 0]
         }
     }
+}
+
+/// The length of an event.
+pub const EVENT: usize = 13;
+
+pub fn event_bytes(event: Cea608) -> [u8; EVENT] {
+    match event {
+        Cea608::Text(Text {
+            needs_backspace,
+            char1,
+            char2,
+            channel,
+        }) => {
+            let characters = [char1.map(u32::from), char2.map(u32::from)];
+            text_bytes(needs_backspace, characters, channel)
+        }
+        Cea608::NewMode(channel, mode) => short_event(1, channel, [mode_byte(mode), 0, 0]),
+        Cea608::EraseDisplay(channel) => short_event(2, channel, [0; 3]),
+        Cea608::EraseNonDisplay(channel) => short_event(3, channel, [0; 3]),
+        Cea608::CarriageReturn(channel) => short_event(4, channel, [0; 3]),
+        Cea608::Backspace(channel) => short_event(5, channel, [0; 3]),
+        Cea608::EndOfCaption(channel) => short_event(6, channel, [0; 3]),
+        Cea608::TabOffset(channel, count) => short_event(7, channel, [count, 0, 0]),
+        Cea608::DeleteToEndOfRow(channel) => short_event(8, channel, [0; 3]),
+        Cea608::Preamble(channel, code) => {
+            let style = style_byte(code.code());
+            short_event(9, channel, [code.row(), style, code.underline().into()])
+        }
+        Cea608::MidRowChange(channel, code) => {
+            let colour = mid_row_colour_byte(code);
+            short_event(10, channel, [colour, code.underline().into(), 0])
+        }
+    }
+}
+
+fn short_event(kind: u8, channel: Channel, rest: [u8; 3]) -> [u8; EVENT] {
+    let mut bytes = [0; EVENT];
+    bytes[0] = kind;
+    bytes[1] = channel_byte(channel);
+    bytes[2..5].copy_from_slice(&rest);
+    bytes
+}
+
+/// A text event of any two numbers, also of those that are no `char` of Rust.
+pub fn text_bytes(
+    needs_backspace: bool,
+    characters: [Option<u32>; 2],
+    channel: Channel,
+) -> [u8; EVENT] {
+    let mut bytes = short_event(0, channel, [needs_backspace.into(), 0, 0]);
+    for (character, at) in characters.into_iter().zip([3, 8]) {
+        if let Some(point) = character {
+            bytes[at] = 1;
+            bytes[at + 1..at + 5].copy_from_slice(&point.to_le_bytes());
+        }
+    }
+    bytes
 }
 
 fn place<T: PartialEq>(list: &[T], value: T) -> Option<u8> {

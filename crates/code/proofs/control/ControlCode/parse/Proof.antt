@@ -7,6 +7,9 @@ use Rattle.code.proofs.Meaning.{parsed, without-field-between}
 use Rattle.code.proofs.control.ControlCode.parse.Statement.{statement}
 use Rattle.code.proofs.control.ControlCode.parse.Tie as tie
 
+channel-of-requires : tie.Need-channel-of-requires
+channel-of-requires c κs = search needs
+
 add-prefix : tie.Need-add-prefix
 add-prefix c = search needs
 
@@ -18,11 +21,12 @@ without-field-requires c κs = search needs
 
 parse-requires : tie.Need-parse-requires
 parse-requires c κs =
-    let a = c .before .before .args .first in
-    let b = c .before .before .args .second in
+    let begun = c .before .before .before in
+    let a = begun .args .first in
+    let b = begun .args .second in
     let small = without-field-between (a % 8 + 16) b (omega arith) (omega arith) in
     let e = c .without-field .ensures in
-    (rw e (small .0), rw e (small .1), c .before .before .pre .2)
+    (rw e (small .0), rw e (small .1), begun .pre .2)
 
 enum-known-control : tie.Need-enum-known-control
 enum-known-control c = search needs
@@ -32,22 +36,24 @@ enum-told c = search needs
 
 returns : tie.Need-returns
 returns c =
-    let begun = c .before .before .before .before .before .before in
+    let begun = c .before .before .before .before .before .before .before in
     rw (c .before .control .given .1) at
-    (parsed (begun .args .first) (begun .args .second) _ _ _
+    (parsed (begun .args .first) (begun .args .second) _ _ _ _
     (begun .pre .0)
     (begun .pre .1)
+    (c .before .before .before .before .before .before .channel-of .ensures)
     (c .before .before .before .before .before .field-of .ensures)
     (c .before .before .before .before .without-field .ensures)
     (c .before .before .before .parse .ensures))
 
 returns-2 : tie.Need-returns-2
 returns-2 c =
-    let begun = c .before .before .before .before .before in
+    let begun = c .before .before .before .before .before .before in
     rw (c .enum-told .given .1) at
-    (parsed (begun .args .first) (begun .args .second) _ _ _
+    (parsed (begun .args .first) (begun .args .second) _ _ _ _
     (begun .pre .0)
     (begun .pre .1)
+    (c .before .before .before .before .before .channel-of .ensures)
     (c .before .before .before .before .field-of .ensures)
     (c .before .before .before .without-field .ensures)
     (c .before .before .parse .ensures))
@@ -56,6 +62,7 @@ pub parse-spec : {M : Type 1} → statement M
 parse-spec =
     tie.close
     (tie.spec
+    channel-of-requires
     add-prefix
     field-of-requires
     without-field-requires

@@ -2,7 +2,7 @@
 -- Assumes nothing.
 use borrow.Author.Needs.{needs}
 use mathlib.Core.Path.{sym, ap, _∙_}
-use Rattle.code.specs.Preamble.{columnOf}
+use Rattle.code.specs.Preamble.{columnOf, maybeIndentOutcome}
 use Rattle.code.proofs.preamble.PreambleAddressCode.column.Statement.{statement}
 use Rattle.code.proofs.preamble.PreambleAddressCode.column.Tie as tie
 
@@ -16,10 +16,10 @@ enum-told : tie.Need-enum-told
 enum-told c = search needs
 
 returns : tie.Need-returns
-returns c = sym (ap columnOf (sym (c .before .before .before .indent .ensures) ∙ c .before .columns .given .1))
+returns c = sym (ap columnOf (sym (c .before .before .before .indent .ensures) ∙ ap maybeIndentOutcome (c .before .columns .given .1)))
 
 returns-2 : tie.Need-returns-2
-returns-2 c = sym (ap columnOf (sym (c .before .before .indent .ensures) ∙ c .enum-told .given .1))
+returns-2 c = sym (ap columnOf (sym (c .before .before .indent .ensures) ∙ ap maybeIndentOutcome (c .enum-told .given .1)))
 
 pub column-spec : {M : Type 1} → statement M
 column-spec = tie.close (tie.spec indent-requires enum-known-columns enum-told returns returns-2)

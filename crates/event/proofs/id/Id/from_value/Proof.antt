@@ -18,11 +18,12 @@ value-is z k fits e = sym (toZ-ofZ w8 z fits) ∙ ap (toZ w8) e
 
 other : (z : ℤ) → (ofZ w8 z ≡ 1 → ⊥) → (ofZ w8 z ≡ 2 → ⊥) → (ofZ w8 z ≡ 3 → ⊥) → (ofZ w8 z ≡ 4 → ⊥) → refused 6 ≡ fromValue z
 other (pos n) h1 h2 h3 h4 =
-    simp
-    (ne-eqb n 1 (λ (e : n ≡ 1). h1 (ap (λ (m : ℕ). ofZ w8 (pos m)) e)),
-    ne-eqb n 2 (λ (e : n ≡ 2). h2 (ap (λ (m : ℕ). ofZ w8 (pos m)) e)),
-    ne-eqb n 3 (λ (e : n ≡ 3). h3 (ap (λ (m : ℕ). ofZ w8 (pos m)) e)),
-    ne-eqb n 4 (λ (e : n ≡ 4). h4 (ap (λ (m : ℕ). ofZ w8 (pos m)) e)))
+    simp (
+      ne-eqb n 1 (λ (e : n ≡ 1). h1 (ap (λ (m : ℕ). ofZ w8 (pos m)) e)),
+      ne-eqb n 2 (λ (e : n ≡ 2). h2 (ap (λ (m : ℕ). ofZ w8 (pos m)) e)),
+      ne-eqb n 3 (λ (e : n ≡ 3). h3 (ap (λ (m : ℕ). ofZ w8 (pos m)) e)),
+      ne-eqb n 4 (λ (e : n ≡ 4). h4 (ap (λ (m : ℕ). ofZ w8 (pos m)) e)),
+    )
 other (negsuc n) h1 h2 h3 h4 = refl
 
 -- src/id.rt:27:5

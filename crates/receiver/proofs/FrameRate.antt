@@ -1,0 +1,178 @@
+-- The frame-rate law: padding put in or taken out, at any places where no repeat is awaited, changes no event, nor the
+-- order of events, nor the channel or the field in the end. And the case that its limit is real: padding put between the
+-- two copies of a carriage return, or of any command, makes it act twice.
+-- Assumes nothing.
+use mathlib.Core.Bool.{Bool, true, false, cond, _&&_, true≢false}
+use mathlib.Core.List.{List, [], _∷_}
+use mathlib.Core.Logic.{_⊎_, inl, inr, ⊎-elim}
+use mathlib.Core.Option.{Option, none, some}
+use mathlib.Core.Path.{_≡_, refl, ap, subst, sym, _∙_}
+use lib.Count.{ones, onesIn}
+use lib.Dec.{eqb}
+use borrow.Author.Tests.{eqb-true}
+use Rattle.code.proofs.Written.{command-by-first-byte, padding-read}
+use Rattle.code.specs.Channel.{channelOne}
+use Rattle.code.specs.Outcome.{Outcome, answer, refused}
+use Rattle.code.specs.Parity.{stripped}
+use Rattle.code.specs.Read.{isCommand, readPair}
+use Rattle.code.specs.Write.{pair}
+use Rattle.code.specs.declared.code.Code.{Code}
+use Rattle.code.specs.declared.code.Code.the-variants as code
+use Rattle.code.specs.declared.control.ControlCode.{ControlCode}
+use Rattle.code.specs.declared.pair.Pair.{Pair}
+use Rattle.event.specs.declared.event.Cea608.{Cea608}
+use Rattle.event.specs.declared.event.Cea608.the-variants as event
+use Rattle.receiver.specs.Padding.{awaits, padding, Quiet, Repadded}
+use Rattle.receiver.specs.Padding as repadded
+use Rattle.receiver.specs.Reading.{after, answers, events}
+use Rattle.receiver.specs.Receiver.{afterReading, fieldAfter, fresh, heardCodes, heardText, isLast, state, step, Stepped, textFor}
+use Rattle.receiver.specs.declared.state.Cea608State.{Cea608State}
+use Rattle.receiver.specs.declared.state.LastChannel.{LastChannel}
+use Rattle.receiver.specs.declared.state.LastChannel.the-variants as channel
+use Rattle.receiver.specs.declared.state.LastField.{LastField}
+use Rattle.receiver.specs.declared.state.LastPair.{LastPair}
+use Rattle.receiver.specs.declared.state.LastPair.the-variants as last
+
+-- two states that no later pair tells apart
+pub record Alike (s t : Cea608State) : Type 0 where
+  pub same-channel : s .«last_channel» ≡ t .«last_channel»
+  pub same-field : s .«last_received_field» ≡ t .«last_received_field»
+  pub same-wait : (s .«last_data» ≡ t .«last_data») ⊎ (Quiet s × Quiet t)
+
+pub alike-itself : (s : Cea608State) → Alike s s
+alike-itself s = record { same-channel = refl; same-field = refl; same-wait = inl refl }
+
+-- a command is never the last pair where that is quiet
+differs : (t u : Bool) → (t ≡ true → ⊥) → t && u ≡ false
+differs true u h = absurd (h refl)
+differs false u h = refl
+
+quiet-is-no-repeat : (p : Pair) (c : ControlCode) (y : Code) (l : LastPair) → readPair (p .0) (p .1) ≡ answer (code.Control c, y) → awaits l ≡ false → isLast p l ≡ false
+quiet-is-no-repeat p c y last.Absent e quiet = refl
+quiet-is-no-repeat p c y (last.Was q) e quiet =
+    differs (eqb (q .0) (p .0)) (eqb (q .1) (p .1))
+    (λ (t : eqb (q .0) (p .0) ≡ true).
+        true≢false
+        (sym (command-by-first-byte (p .0) (p .1) c y e)
+        ∙ sym (ap (λ (b : Prim.Native.Nat.ℕ). isCommand (stripped b)) (eqb-true (q .0) (p .0) t))
+        ∙ quiet))
+
+module _ (s t : Cea608State) (p : Pair) (a : Alike s t) where
+  -- alike states judge a repeat alike
+  same-test : (c : ControlCode) (y : Code) → readPair (p .0) (p .1) ≡ answer (code.Control c, y) → isLast p (s .«last_data») ≡ isLast p (t .«last_data»)
+  same-test c y e =
+      ⊎-elim
+      (λ (same : s .«last_data» ≡ t .«last_data»). ap (isLast p) same)
+      (λ (quiet : Quiet s × Quiet t).
+          quiet-is-no-repeat p c y (s .«last_data») e (quiet .0) ∙ sym (quiet-is-no-repeat p c y (t .«last_data») e (quiet .1)))
+      (a .same-wait)
+
+  -- and give alike answers and states
+  abbrev AlikeSteps : Stepped → Stepped → Type 0
+  AlikeSteps x y = (x .0 ≡ y .0) × Alike (x .1) (y .1)
+
+  either : (u : Bool) (x y v w : Stepped) → AlikeSteps x v → AlikeSteps y w → AlikeSteps (cond u x y) (cond u v w)
+  either true x y v w h k = h
+  either false x y v w h k = k
+
+  alike-text : (x y : Code) → AlikeSteps (heardText s p x y) (heardText t p x y)
+  alike-text x y =
+      (ap (λ (ch : LastChannel). answer (textFor ch x y)) (a .same-channel),
+      record { same-channel = a .same-channel; same-field = a .same-field; same-wait = inl refl })
+
+  alike-codes : (x y : Code) → readPair (p .0) (p .1) ≡ answer (x, y) → AlikeSteps (heardCodes s p x y) (heardCodes t p x y)
+  alike-codes (code.Control c) y e =
+      rw (same-test c y e)
+      (either (isLast p (t .«last_data»)) _ _ _ _
+      (refl, record { same-channel = a .same-channel; same-field = a .same-field; same-wait = inl refl })
+      (refl,
+      record {
+        same-channel = refl;
+        same-field = ap (fieldAfter (c .field)) (a .same-field);
+        same-wait = inl refl;
+      }))
+  alike-codes code.Nul y e = alike-text code.Nul y
+  alike-codes (code.Letter l) y e = alike-text (code.Letter l) y
+  alike-codes (code.Unknown b) y e = alike-text (code.Unknown b) y
+
+  alike-reading : (o : Outcome (Code × Code)) → readPair (p .0) (p .1) ≡ o → AlikeSteps (afterReading s p o) (afterReading t p o)
+  alike-reading (answer codes) e = alike-codes (codes .0) (codes .1) e
+  alike-reading (refused n) e = (refl, a)
+
+  pub alike-steps : AlikeSteps (step s p) (step t p)
+  alike-steps = alike-reading (readPair (p .0) (p .1)) refl
+
+-- padding gives no event and leaves channel and field
+no-text : (ch : LastChannel) → textFor ch code.Nul code.Nul ≡ none
+no-text channel.Unknown = refl
+no-text (channel.Known ch) = refl
+
+pub padding-step : (s : Cea608State) → step s padding ≡ (answer none, state (last.Was padding) (s .«last_channel») (s .«last_received_field»))
+padding-step s = ap (afterReading s padding) padding-read ∙ rw (no-text (s .«last_channel»))
+
+-- an answer in front of two lists with the same events
+events-behind : (o : Outcome (Option Cea608)) (os qs : List (Outcome (Option Cea608))) → events os ≡ events qs → events (o ∷ os) ≡ events (o ∷ qs)
+events-behind (answer none) os qs e = e
+events-behind (answer (some x)) os qs e = ap (λ (l : List Cea608). x ∷ l) e
+events-behind (refused n) os qs e = e
+
+quiet-too : (s t : Cea608State) → Alike s t → Quiet s → Quiet t
+quiet-too s t a quiet =
+    ⊎-elim
+    (λ (same : s .«last_data» ≡ t .«last_data»). subst (λ (l : LastPair). awaits l ≡ false) same quiet)
+    (λ (both : Quiet s × Quiet t). both .1)
+    (a .same-wait)
+
+-- padding read on one side only
+padded-second : (s t : Cea608State) → Alike s t → Quiet s → Alike s (step t padding .1)
+padded-second s t a quiet =
+    rw (padding-step t)
+    (record { same-channel = a .same-channel; same-field = a .same-field; same-wait = inr (quiet, refl) })
+
+padded-first : (s t : Cea608State) → Alike s t → Quiet s → Alike (step s padding .1) t
+padded-first s t a quiet =
+    rw (padding-step s)
+    (record { same-channel = a .same-channel; same-field = a .same-field; same-wait = inr (refl, quiet-too s t a quiet) })
+
+padding-unheard : (s : Cea608State) (os : List (Outcome (Option Cea608))) → events (step s padding .0 ∷ os) ≡ events os
+padding-unheard s os = rw (padding-step s)
+
+abbrev SameHeard : Cea608State → List Pair → Cea608State → List Pair → Type 0
+SameHeard s ps t qs = (events (answers s ps) ≡ events (answers t qs)) × Alike (after s ps) (after t qs)
+
+heard-alike : (s t : Cea608State) (ps qs : List Pair) → Repadded s ps qs → Alike s t → SameHeard s ps t qs
+heard-alike s t ps qs repadded.ends a = (refl, a)
+heard-alike s t ps qs (repadded.keeps {p = p} {ps = ps′} {qs = qs′} r) a =
+    let now = alike-steps s t p a in
+    let later = heard-alike (step s p .1) (step t p .1) ps′ qs′ r (now .1) in
+    (events-behind (step s p .0) (answers (step s p .1) ps′) (answers (step t p .1) qs′) (later .0) ∙ ap (λ (o : Outcome (Option Cea608)). events (o ∷ answers (step t p .1) qs′)) (now .0),
+    later .1)
+heard-alike s t ps qs (repadded.puts-in {qs = qs′} quiet r) a =
+    let later = heard-alike s (step t padding .1) ps qs′ r (padded-second s t a quiet) in
+    (later .0 ∙ sym (padding-unheard t (answers (step t padding .1) qs′)), later .1)
+heard-alike s t ps qs (repadded.takes-out {ps = ps′} quiet r) a =
+    let later = heard-alike (step s padding .1) t ps′ qs r (padded-first s t a quiet) in
+    (padding-unheard s (answers (step s padding .1) ps′) ∙ later .0, later .1)
+
+-- the law: from any state, the same events in the same order, and the same channel and field in the end
+pub record SameCaptions (s : Cea608State) (ps qs : List Pair) : Type 0 where
+  pub same-events : events (answers s ps) ≡ events (answers s qs)
+  pub ends-in-channel : after s ps .«last_channel» ≡ after s qs .«last_channel»
+  pub ends-in-field : after s ps .«last_received_field» ≡ after s qs .«last_received_field»
+
+pub frame-rate-law : (s : Cea608State) (ps qs : List Pair) → Repadded s ps qs → SameCaptions s ps qs
+frame-rate-law s ps qs r =
+    let h = heard-alike s s ps qs r (alike-itself s) in
+    record { same-events = h .0; ends-in-channel = h .1 .same-channel; ends-in-field = h .1 .same-field }
+
+-- its limit: a carriage return and its repeat scroll once; with padding between them, twice
+abbrev carriageReturn : Pair
+carriageReturn = pair 0x94 0xAD
+
+pub doubled-scrolls-once : events (answers fresh (carriageReturn ∷ carriageReturn ∷ [])) ≡ event.CarriageReturn channelOne ∷ []
+unfolding readPair ones onesIn
+doubled-scrolls-once = refl
+
+pub padded-inside-scrolls-twice : events (answers fresh (carriageReturn ∷ padding ∷ carriageReturn ∷ [])) ≡ event.CarriageReturn channelOne ∷ event.CarriageReturn channelOne ∷ []
+unfolding readPair ones onesIn
+padded-inside-scrolls-twice = refl

@@ -1,0 +1,81 @@
+-- What one pair does: a refusal changes nothing, text is never skipped, and a command that has no event still sets the
+-- channel.
+-- Assumes nothing.
+use mathlib.Core.Bool.{Bool, true, false, cond}
+use mathlib.Core.List.{[], _∷_, map}
+use mathlib.Core.Option.{Option, none, some}
+use mathlib.Core.Path.{_≡_, refl, ap, _∙_}
+use Prim.Native.Nat.{ℕ}
+use Rattle.code.proofs.OneAnswer.{clash}
+use Rattle.code.proofs.Written.{read-as-text, single-is-no-command}
+use Rattle.code.specs.Code.{controlChar}
+use Rattle.code.specs.Outcome.{Outcome, answer, refused}
+use Rattle.code.specs.Parity.{isOdd, stripped}
+use Rattle.code.specs.Read.{isCommand, readPair, single}
+use Rattle.code.specs.declared.channel.Channel.{Channel}
+use Rattle.code.specs.declared.code.Code.{Code}
+use Rattle.code.specs.declared.code.Code.the-variants as code
+use Rattle.code.specs.declared.control.Command.the-variants.{AlarmOff, AlarmOn, FlashOn, TextRestart, ResumeTextDisplay}
+use Rattle.code.specs.declared.control.Control.the-variants as control
+use Rattle.code.specs.declared.control.ControlCode.{ControlCode}
+use Rattle.code.specs.declared.pair.Pair.{Pair}
+use Rattle.code.specs.declared.symbol.Symbol.{Symbol}
+use Rattle.receiver.specs.Heard.{commandEvent, controlEvent, eventOf}
+use Rattle.receiver.specs.Receiver.{acts, afterReading, heardCodes, heardCommand, heardText, isLast, step, Stepped}
+use Rattle.receiver.specs.declared.state.Cea608State.{Cea608State}
+
+-- a pair that is read as a command
+abbrev pub IsCommand : Pair → ControlCode → Type 0
+IsCommand p c = (y : Code) × (readPair (p .0) (p .1) ≡ answer (code.Control c, y))
+
+-- a command does what `heardCommand` says
+pub step-command : (s : Cea608State) (p : Pair) (c : ControlCode) → IsCommand p c → step s p ≡ heardCommand s p c
+step-command s p c h = ap (afterReading s p) (h .1)
+
+-- one that is not the last pair acts, and one that is does not
+pub command-acts : (s : Cea608State) (p : Pair) (c : ControlCode) → IsCommand p c → isLast p (s .«last_data») ≡ false → step s p ≡ acts s p c
+command-acts s p c h other = step-command s p c h ∙ rw other
+
+module _ (s : Cea608State) (p : Pair) (n : ℕ) where
+  refused-command : (t : Bool) (x y : Stepped) → ((x .0 ≡ refused n) → ⊥) → ((y .0 ≡ refused n) → ⊥) → cond t x y .0 ≡ refused n → ⊥
+  refused-command true x y hx hy e = hx e
+  refused-command false x y hx hy e = hy e
+
+  refused-codes : (x y : Code) → heardCodes s p x y .0 ≡ refused n → heardCodes s p x y .1 ≡ s
+  refused-codes (code.Control c) y e = absurd (refused-command (isLast p (s .«last_data»)) _ _ (λ q. clash q) (λ q. clash q) e)
+  refused-codes code.Nul y e = absurd (clash e)
+  refused-codes (code.Letter l) y e = absurd (clash e)
+  refused-codes (code.Unknown b) y e = absurd (clash e)
+
+  refused-reading : (o : Outcome (Code × Code)) → afterReading s p o .0 ≡ refused n → afterReading s p o .1 ≡ s
+  refused-reading (answer codes) e = refused-codes (codes .0) (codes .1) e
+  refused-reading (refused m) e = refl
+
+  pub a-refusal-changes-nothing : step s p .0 ≡ refused n → step s p .1 ≡ s
+  a-refusal-changes-nothing e = refused-reading (readPair (p .0) (p .1)) e
+
+-- what is no command is text, whatever the last pair was
+pub no-command : (s : Cea608State) (p : Pair) (x y : Code) → ((c : ControlCode) → x ≡ code.Control c → ⊥) → heardCodes s p x y ≡ heardText s p x y
+no-command s p (code.Control c) y h = absurd (h c refl)
+no-command s p code.Nul y h = refl
+no-command s p (code.Letter l) y h = refl
+no-command s p (code.Unknown b) y h = refl
+
+pub text-is-never-skipped : (s : Cea608State) (p : Pair) → isOdd (p .0) ≡ true → isOdd (p .1) ≡ true → isCommand (stripped (p .0)) ≡ false → step s p ≡ heardText s p (single (stripped (p .0))) (single (stripped (p .1)))
+text-is-never-skipped s p odd0 odd1 text =
+    ap (afterReading s p) (read-as-text (p .0) (p .1) odd0 odd1 text)
+    ∙ no-command s p (single (stripped (p .0))) (single (stripped (p .1))) (single-is-no-command (stripped (p .0)))
+
+-- alarms, flash and the text commands, `Unknown`, and a symbol without a character have no event
+pub commands-without-event : (ch : Channel) → map (commandEvent ch) (AlarmOff ∷ AlarmOn ∷ FlashOn ∷ TextRestart ∷ ResumeTextDisplay ∷ []) ≡ none ∷ none ∷ none ∷ none ∷ none ∷ []
+commands-without-event ch = refl
+
+pub unknown-without-event : (ch : Channel) (a b : ℕ) → controlEvent ch (control.Unknown a b) ≡ none
+unknown-without-event ch a b = refl
+
+pub symbol-without-event : (ch : Channel) (s : Symbol) → controlChar (control.Symbol s) ≡ none → controlEvent ch (control.Symbol s) ≡ none
+symbol-without-event ch s h = rw h
+
+-- such a command sets the channel and gives no event
+pub silent-command : (s : Cea608State) (p : Pair) (c : ControlCode) → IsCommand p c → isLast p (s .«last_data») ≡ false → eventOf c ≡ none → step s p ≡ (answer none, acts s p c .1)
+silent-command s p c h other silent = command-acts s p c h other ∙ rw silent
