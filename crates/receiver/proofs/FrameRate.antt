@@ -52,10 +52,10 @@ quiet-is-no-repeat p c y last.Absent e quiet = refl
 quiet-is-no-repeat p c y (last.Was q) e quiet =
     differs (eqb (q .0) (p .0)) (eqb (q .1) (p .1))
     (λ (t : eqb (q .0) (p .0) ≡ true).
-        true≢false
-        (sym (command-by-first-byte (p .0) (p .1) c y e)
-        ∙ sym (ap (λ (b : Prim.Native.Nat.ℕ). isCommand (stripped b)) (eqb-true (q .0) (p .0) t))
-        ∙ quiet))
+    true≢false
+    (sym (command-by-first-byte (p .0) (p .1) c y e)
+    ∙ sym (ap (λ (b : Prim.Native.Nat.ℕ). isCommand (stripped b)) (eqb-true (q .0) (p .0) t))
+    ∙ quiet))
 
 module _ (s t : Cea608State) (p : Pair) (a : Alike s t) where
   -- alike states judge a repeat alike
@@ -64,7 +64,7 @@ module _ (s t : Cea608State) (p : Pair) (a : Alike s t) where
       ⊎-elim
       (λ (same : s .«last_data» ≡ t .«last_data»). ap (isLast p) same)
       (λ (quiet : Quiet s × Quiet t).
-          quiet-is-no-repeat p c y (s .«last_data») e (quiet .0) ∙ sym (quiet-is-no-repeat p c y (t .«last_data») e (quiet .1)))
+      quiet-is-no-repeat p c y (s .«last_data») e (quiet .0) ∙ sym (quiet-is-no-repeat p c y (t .«last_data») e (quiet .1)))
       (a .same-wait)
 
   -- and give alike answers and states
@@ -76,21 +76,23 @@ module _ (s t : Cea608State) (p : Pair) (a : Alike s t) where
   either false x y v w h k = k
 
   alike-text : (x y : Code) → AlikeSteps (heardText s p x y) (heardText t p x y)
-  alike-text x y =
-      (ap (λ (ch : LastChannel). answer (textFor ch x y)) (a .same-channel),
-      record { same-channel = a .same-channel; same-field = a .same-field; same-wait = inl refl })
+  alike-text x y = (
+    ap (λ (ch : LastChannel). answer (textFor ch x y)) (a .same-channel),
+    record { same-channel = a .same-channel; same-field = a .same-field; same-wait = inl refl },
+  )
 
   alike-codes : (x y : Code) → readPair (p .0) (p .1) ≡ answer (x, y) → AlikeSteps (heardCodes s p x y) (heardCodes t p x y)
   alike-codes (code.Control c) y e =
       rw (same-test c y e)
       (either (isLast p (t .«last_data»)) _ _ _ _
-      (refl, record { same-channel = a .same-channel; same-field = a .same-field; same-wait = inl refl })
-      (refl,
-      record {
-        same-channel = refl;
-        same-field = ap (fieldAfter (c .field)) (a .same-field);
-        same-wait = inl refl;
-      }))
+      (refl, record { same-channel = a .same-channel; same-field = a .same-field; same-wait = inl refl }) (
+        refl,
+        record {
+          same-channel = refl;
+          same-field = ap (fieldAfter (c .field)) (a .same-field);
+          same-wait = inl refl;
+        },
+      ))
   alike-codes code.Nul y e = alike-text code.Nul y
   alike-codes (code.Letter l) y e = alike-text (code.Letter l) y
   alike-codes (code.Unknown b) y e = alike-text (code.Unknown b) y
@@ -144,9 +146,10 @@ heard-alike : (s t : Cea608State) (ps qs : List Pair) → Repadded s ps qs → A
 heard-alike s t ps qs repadded.ends a = (refl, a)
 heard-alike s t ps qs (repadded.keeps {p = p} {ps = ps′} {qs = qs′} r) a =
     let now = alike-steps s t p a in
-    let later = heard-alike (step s p .1) (step t p .1) ps′ qs′ r (now .1) in
-    (events-behind (step s p .0) (answers (step s p .1) ps′) (answers (step t p .1) qs′) (later .0) ∙ ap (λ (o : Outcome (Option Cea608)). events (o ∷ answers (step t p .1) qs′)) (now .0),
-    later .1)
+    let later = heard-alike (step s p .1) (step t p .1) ps′ qs′ r (now .1) in (
+      events-behind (step s p .0) (answers (step s p .1) ps′) (answers (step t p .1) qs′) (later .0) ∙ ap (λ (o : Outcome (Option Cea608)). events (o ∷ answers (step t p .1) qs′)) (now .0),
+      later .1,
+    )
 heard-alike s t ps qs (repadded.puts-in {qs = qs′} quiet r) a =
     let later = heard-alike s (step t padding .1) ps qs′ r (padded-second s t a quiet) in
     (later .0 ∙ sym (padding-unheard t (answers (step t padding .1) qs′)), later .1)

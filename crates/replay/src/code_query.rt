@@ -1,5 +1,5 @@
 // The queries of the code layer.
-ghost use Prim.Native.Nat.{_<_};
+use crate::event_bytes::point;
 use crate::from_bytes;
 use crate::query::not_a_query;
 use crate::to_bytes;
@@ -8,6 +8,7 @@ use code::Character;
 use code::Code;
 use code::Control;
 use code::ControlCode;
+use code::Domain;
 use code::Field;
 use code::FromChar;
 use code::FromData;
@@ -39,6 +40,7 @@ pub(crate) fn answer(asked: [u8; 16]) -> [u8; 16] {
         0x0D => tab_offset(asked[1]),
         0x0E => ids(),
         0x0F => byte_parity(asked[1]),
+        0x10 => domain(from_bytes::code(asked)),
         _ => not_a_query(),
     }
 }
@@ -106,16 +108,9 @@ fn character(code: Code) -> [u8; 16] {
     }
 }
 
-fn wide(byte: u8) -> u32
-    ensures { λ r. ⌜ r < 256 ⌝ }
-{
-    byte as u32
-}
-
 fn from_char(asked: [u8; 16]) -> [u8; 16] {
-    let low = wide(asked[1]) + wide(asked[2]) * 256;
-    let high = wide(asked[3]) + wide(asked[4]) * 256;
-    match Code::from_char(low + high * 65536, from_bytes::channel(asked[5])) {
+    let point = point(asked[1], asked[2], asked[3], asked[4]);
+    match Code::from_char(point, from_bytes::channel(asked[5])) {
         FromChar::Made(code) => {
             let a = to_bytes::code(code);
             [
@@ -219,4 +214,12 @@ fn byte_parity(byte: u8) -> [u8; 16] {
     out[1] = stripped;
     out[2] = parity::add_parity(stripped);
     out
+}
+
+fn domain(code: Code) -> [u8; 16] {
+    match code.domain() {
+        Domain::Inside => one(0),
+        Domain::UnknownByte => one(2),
+        Domain::NoSuchRow => one(3),
+    }
 }

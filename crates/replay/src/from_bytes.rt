@@ -1,5 +1,5 @@
 // Values of the code layer from the bytes of a query. Each place is written out here once more, so that a table of the
-// code layer is not asked what it means. A byte past the end of its range stands for the last of the range.
+// code layer is not asked what it means. A byte outside its range stands for some value or other.
 use code::Channel;
 use code::Code;
 use code::CodeField;
@@ -111,7 +111,7 @@ fn symbol(place: u8) -> Symbol {
     }
 }
 
-fn command(n: u8) -> Command {
+pub(crate) fn command(n: u8) -> Command {
     match n {
         0 => Command::ResumeCaptionLoading,
         1 => Command::Backspace,
@@ -140,7 +140,7 @@ fn tab(n: u8) -> Tab {
     }
 }
 
-fn mid_row(n: u8, underline: bool) -> MidRow {
+pub(crate) fn mid_row(n: u8, underline: bool) -> MidRow {
     let mut kind = MidRowColor::Italics;
     if n < 7 {
         kind = MidRowColor::Color(color(n));

@@ -1,39 +1,64 @@
 // Answers queries in the format of docs/REPLAY.md, so that what is proved can be compared with the oracle by running.
 mod code_query;
+mod event_bytes;
+mod event_query;
 mod from_bytes;
 mod query;
+mod receiver_query;
 mod to_bytes;
 
 ghost use Prim.Native.Nat.{_+_, _≤_};
 ghost use mathlib.Core.Path.{_≡_};
 ghost use lib.ListN.{length};
+use crate::query::State;
 use libc::STDIN_FILENO;
 use libc::STDOUT_FILENO;
 
 fn main() {
     let mut input = io::large_buffer();
     let mut output = io::large_buffer();
+    let mut state = query::fresh();
     let mut turns = u64::MAX;
-    while turns > 0 && answer_block(&mut input, &mut output) {
+    let mut more = true;
+    while turns > 0 && more {
+        let done = answer_block(&mut input, &mut output, state);
+        more = done.more;
+        let next = done.state;
+        state = next;
         turns -= 1;
     }
 }
 
-// Reads as much as there is room for, answers each whole query, and says whether there may be more.
-fn answer_block(input: &mut [u8], output: &mut [u8]) -> bool
+// What is kept after a block, and whether there may be more.
+struct Done {
+    more: bool,
+    state: State,
+}
+
+// Reads as much as there is room for and answers each whole query.
+fn answer_block(input: &mut [u8], output: &mut [u8], begun: State) -> Done
     requires { ⌜ length (now input) ≤ length (now output) ⌝ }
 {
     let got = io::read_full(STDIN_FILENO, input);
     let whole = got / 16 * 16;
+    let mut state = begun;
     let mut at: usize = 0;
     while at < whole {
-        put_answer(output, at, query::answer(asked_at(input, at)));
+        let answered = query::answer(asked_at(input, at), state);
+        let bytes = answered.bytes;
+        let next = answered.state;
+        put_answer(output, at, bytes);
+        state = next;
         at += 16;
     }
+    let mut more = false;
     if io::write_all(STDOUT_FILENO, &output[..whole]) {
-        return got == input.len();
+        more = got == input.len();
     }
-    false
+    Done {
+        more: more,
+        state: state,
+    }
 }
 
 // The query at a place of the input.

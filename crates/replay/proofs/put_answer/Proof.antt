@@ -1,12 +1,12 @@
-use native.Mathlib.Omega.{arith}
+-- `replay::put_answer` is safe and ends. The invariant: the output keeps its length. The measure is what is left of the sixteen bytes.
+-- Assumes nothing.
 use Prim.Native.Nat.{_≤_, _-_}
-use mathlib.Core.Path.{_≡_}
-use lib.ListN.{length, length-set}
 use borrow.Author.Needs.{needs}
+use lib.ListN.{length, length-set}
+use mathlib.Core.Path.{_≡_}
+use native.Mathlib.Omega.{arith}
 use Rattle.replay.proofs.put_answer.Statement.{statement}
 use Rattle.replay.proofs.put_answer.Tie as tie
-use Rattle.replay.proofs.put_answer.Reads as reads
-use Rattle.replay.proofs.put_answer.Lts as lts
 
 abbrev Inv-loop : tie.InvT-loop
 Inv-loop output₀ at answer i₀ output i = (i ≤ 16) × (length output ≡ length output₀)
@@ -14,39 +14,30 @@ Inv-loop output₀ at answer i₀ output i = (i ≤ 16) × (length output ≡ le
 abbrev μ-loop : tie.MeasureT-loop
 μ-loop output₀ at answer i₀ output i = 16 - i
 
--- src/main.rt:58:5
 loop-holds : tie.Need-loop-holds Inv-loop μ-loop
 loop-holds c = search needs
 
--- src/main.rt:59:26
 array-read-output : tie.Need-array-read-output Inv-loop μ-loop
 array-read-output c = search needs
 
--- src/main.rt:59:16
 add-output : tie.Need-add-output Inv-loop μ-loop
 add-output c = search needs
 
--- src/main.rt:59:9
 slice-write-output : tie.Need-slice-write-output Inv-loop μ-loop
 slice-write-output c = omega arith
 
--- src/main.rt:60:9
 add-i : tie.Need-add-i Inv-loop μ-loop
 add-i c = search needs
 
--- src/main.rt:58:5
 loop-less : tie.Need-loop-less Inv-loop μ-loop
 loop-less c = search needs
 
--- src/main.rt:58:5
 loop-again : tie.Need-loop-again Inv-loop μ-loop
 loop-again c = (search needs, simp length-set (c .before .loop .inv .1))
 
--- src/main.rt:54:1
 same-length : tie.Need-same-length Inv-loop μ-loop
 same-length c = search needs
 
--- src/main.rt:54:1
 returns : tie.Need-returns Inv-loop μ-loop
 returns c = search needs
 

@@ -1,21 +1,17 @@
+-- `event::into_code::preamble_alone` meets its contract: a row below 15 is at most 14.
+-- Assumes nothing.
 use borrow.Author.Needs.{needs}
 use borrow.Author.Tests.{le-leb, lt-leb}
 use native.Mathlib.Omega.{arith}
 use Rattle.event.proofs.into_code.preamble_alone.Statement.{statement}
 use Rattle.event.proofs.into_code.preamble_alone.Tie as tie
-use Rattle.event.proofs.into_code.preamble_alone.Reads as reads
-use Rattle.event.proofs.into_code.preamble_alone.Lts as lts
-use Rattle.event.proofs.into_code.control_alone.Reads as control-alone-reads
 
--- src/into_code.rt:94:9
 control-alone-requires : tie.Need-control-alone-requires
 control-alone-requires c κs = search needs
 
--- src/into_code.rt:89:1
 returns : tie.Need-returns
 returns c = simp (c .control-alone .ensures, le-leb (c .before .before .args .preamble .row) 14 (omega arith))
 
--- src/into_code.rt:89:1
 returns-2 : tie.Need-returns-2
 returns-2 c = simp (lt-leb (c .before .args .preamble .row) 14 (omega arith))
 

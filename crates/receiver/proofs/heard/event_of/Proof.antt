@@ -1,69 +1,51 @@
+-- `receiver::heard::event_of` meets its contract, by the kind of the control.
+-- Assumes nothing.
 use borrow.Author.Needs.{needs}
 use Rattle.receiver.proofs.heard.event_of.Statement.{statement}
 use Rattle.receiver.proofs.heard.event_of.Tie as tie
-use Rattle.receiver.proofs.heard.event_of.Reads as reads
-use Rattle.receiver.proofs.heard.event_of.Lts as lts
-use Rattle.code.proofs.control.Tab.number.Reads as number-reads
-use Rattle.receiver.proofs.heard.command_event.Reads as command-event-reads
-use Rattle.receiver.proofs.heard.symbol_event.Reads as symbol-event-reads
 
--- src/heard.rt:31:25
 enum-known-control : tie.Need-enum-known-control
 enum-known-control c = search needs
 
--- src/heard.rt:32:25
 enum-known-control-2 : tie.Need-enum-known-control-2
 enum-known-control-2 c = search needs
 
--- src/heard.rt:32:36
 symbol-event-requires : tie.Need-symbol-event-requires
 symbol-event-requires c κs = search needs
 
--- src/heard.rt:33:26
 enum-known-control-3 : tie.Need-enum-known-control-3
 enum-known-control-3 c = search needs
 
--- src/heard.rt:33:38
 command-event-requires : tie.Need-command-event-requires
 command-event-requires c κs = search needs
 
--- src/heard.rt:34:22
 enum-known-control-4 : tie.Need-enum-known-control-4
 enum-known-control-4 c = search needs
 
--- src/heard.rt:34:70
 number-requires : tie.Need-number-requires
 number-requires c κs = search needs
 
--- src/heard.rt:35:27
 enum-known-control-5 : tie.Need-enum-known-control-5
 enum-known-control-5 c = search needs
 
--- src/heard.rt:36:35
 enum-told : tie.Need-enum-told
 enum-told c = search needs
 
--- src/heard.rt:25:1
 returns : tie.Need-returns
 returns c = rw (c .before .control .given .1)
 
--- src/heard.rt:25:1
 returns-2 : tie.Need-returns-2
 returns-2 c = rw (c .before .before .control2 .given .1) (c .symbol-event .ensures)
 
--- src/heard.rt:25:1
 returns-3 : tie.Need-returns-3
 returns-3 c = rw (c .before .before .control3 .given .1) (c .command-event .ensures)
 
--- src/heard.rt:25:1
 returns-4 : tie.Need-returns-4
 returns-4 c = rw (c .before .before .control4 .given .1, c .number .ensures)
 
--- src/heard.rt:25:1
 returns-5 : tie.Need-returns-5
 returns-5 c = rw (c .before .control5 .given .1)
 
--- src/heard.rt:25:1
 returns-6 : tie.Need-returns-6
 returns-6 c = rw (c .enum-told .given .1)
 

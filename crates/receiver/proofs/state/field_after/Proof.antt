@@ -1,25 +1,21 @@
+-- `receiver::state::field_after` meets its contract: the field that is named, or the one before.
+-- Assumes nothing.
 use borrow.Author.Needs.{needs}
 use mathlib.Core.Path.{ap, sym}
 use Rattle.code.specs.declared.control.CodeField.{CodeField}
 use Rattle.receiver.specs.Receiver.{fieldAfter}
 use Rattle.receiver.proofs.state.field_after.Statement.{statement}
 use Rattle.receiver.proofs.state.field_after.Tie as tie
-use Rattle.receiver.proofs.state.field_after.Reads as reads
-use Rattle.receiver.proofs.state.field_after.Lts as lts
 
--- src/state.rt:170:23
 enum-known-named : tie.Need-enum-known-named
 enum-known-named c = search needs
 
--- src/state.rt:171:30
 enum-told : tie.Need-enum-told
 enum-told c = search needs
 
--- src/state.rt:166:1
 returns : tie.Need-returns
 returns c = sym (ap (λ (n : CodeField). fieldAfter n (c .before .before .before .args .before)) (c .before .named .given .1))
 
--- src/state.rt:166:1
 returns-2 : tie.Need-returns-2
 returns-2 c = search needs
 

@@ -1,27 +1,22 @@
+-- `receiver::state::is_last` meets its contract: both bytes are compared.
+-- Assumes nothing.
 use borrow.Author.Needs.{needs}
 use borrow.Author.Tests.{eq-eqb, ne-eqb}
 use Rattle.receiver.proofs.state.is_last.Statement.{statement}
 use Rattle.receiver.proofs.state.is_last.Tie as tie
-use Rattle.receiver.proofs.state.is_last.Reads as reads
-use Rattle.receiver.proofs.state.is_last.Lts as lts
 
--- src/state.rt:154:23
 enum-known-last : tie.Need-enum-known-last
 enum-known-last c = search needs
 
--- src/state.rt:161:29
 enum-told : tie.Need-enum-told
 enum-told c = search needs
 
--- src/state.rt:150:1
 returns : tie.Need-returns
 returns c = rw (c .before .before .before .before .before .before .last .given .1) (simp (eq-eqb _ _ (c .before .before .if1 .taken)))
 
--- src/state.rt:150:1
 returns-2 : tie.Need-returns-2
 returns-2 c = rw (c .before .before .before .before .last .given .1) (simp (ne-eqb _ _ (c .if1 .left)))
 
--- src/state.rt:150:1
 returns-3 : tie.Need-returns-3
 returns-3 c = search needs
 

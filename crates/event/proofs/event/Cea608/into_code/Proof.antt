@@ -1,148 +1,108 @@
+-- `event::event::Cea608::into_code` meets its contract: each kind of event by what its own function ensures.
+-- Assumes nothing.
 use borrow.Author.Needs.{needs}
 use Rattle.event.proofs.event.Cea608.into_code.Statement.{statement}
 use Rattle.event.proofs.event.Cea608.into_code.Tie as tie
-use Rattle.event.proofs.event.Cea608.into_code.Reads as reads
-use Rattle.event.proofs.event.Cea608.into_code.Lts as lts
-use Rattle.event.proofs.event.Text.into_code.Reads as into-code-reads
-use Rattle.event.proofs.into_code.command_alone.Reads as command-alone-reads
-use Rattle.event.proofs.into_code.control_alone.Reads as control-alone-reads
-use Rattle.event.proofs.into_code.preamble_alone.Reads as preamble-alone-reads
-use Rattle.event.proofs.into_code.tab_alone.Reads as tab-alone-reads
-use Rattle.event.proofs.mode.Mode.command.Reads as command-reads
 
--- src/into_code.rt:43:26
 enum-known-self : tie.Need-enum-known-self
 enum-known-self c = search needs
 
--- src/into_code.rt:43:35
 into-code-requires : tie.Need-into-code-requires
 into-code-requires c κs = search needs
 
--- src/into_code.rt:44:29
 enum-known-self-2 : tie.Need-enum-known-self-2
 enum-known-self-2 c = search needs
 
--- src/into_code.rt:44:77
 command-requires : tie.Need-command-requires
 command-requires c κs = search needs
 
--- src/into_code.rt:44:47
 command-alone-requires : tie.Need-command-alone-requires
 command-alone-requires c κs = search needs
 
--- src/into_code.rt:45:34
 enum-known-self-3 : tie.Need-enum-known-self-3
 enum-known-self-3 c = search needs
 
--- src/into_code.rt:45:46
 command-alone-requires-2 : tie.Need-command-alone-requires-2
 command-alone-requires-2 c κs = search needs
 
--- src/into_code.rt:46:37
 enum-known-self-4 : tie.Need-enum-known-self-4
 enum-known-self-4 c = search needs
 
--- src/into_code.rt:46:49
 command-alone-requires-3 : tie.Need-command-alone-requires-3
 command-alone-requires-3 c κs = search needs
 
--- src/into_code.rt:47:36
 enum-known-self-5 : tie.Need-enum-known-self-5
 enum-known-self-5 c = search needs
 
--- src/into_code.rt:47:48
 command-alone-requires-4 : tie.Need-command-alone-requires-4
 command-alone-requires-4 c κs = search needs
 
--- src/into_code.rt:48:31
 enum-known-self-6 : tie.Need-enum-known-self-6
 enum-known-self-6 c = search needs
 
--- src/into_code.rt:48:43
 command-alone-requires-5 : tie.Need-command-alone-requires-5
 command-alone-requires-5 c κs = search needs
 
--- src/into_code.rt:49:34
 enum-known-self-7 : tie.Need-enum-known-self-7
 enum-known-self-7 c = search needs
 
--- src/into_code.rt:49:46
 command-alone-requires-6 : tie.Need-command-alone-requires-6
 command-alone-requires-6 c κs = search needs
 
--- src/into_code.rt:50:31
 enum-known-self-8 : tie.Need-enum-known-self-8
 enum-known-self-8 c = search needs
 
--- src/into_code.rt:50:50
 tab-alone-requires : tie.Need-tab-alone-requires
 tab-alone-requires c κs = search needs
 
--- src/into_code.rt:51:38
 enum-known-self-9 : tie.Need-enum-known-self-9
 enum-known-self-9 c = search needs
 
--- src/into_code.rt:51:50
 command-alone-requires-7 : tie.Need-command-alone-requires-7
 command-alone-requires-7 c κs = search needs
 
--- src/into_code.rt:52:30
 enum-known-self-10 : tie.Need-enum-known-self-10
 enum-known-self-10 c = search needs
 
--- src/into_code.rt:52:52
 preamble-alone-requires : tie.Need-preamble-alone-requires
 preamble-alone-requires c κs = search needs
 
--- src/into_code.rt:53:34
 enum-known-self-11 : tie.Need-enum-known-self-11
 enum-known-self-11 c = search needs
 
--- src/into_code.rt:53:55
 control-alone-requires : tie.Need-control-alone-requires
 control-alone-requires c κs = search needs
 
--- src/into_code.rt:39:5
 returns : tie.Need-returns
 returns c = rw (c .before .before .self .given .1) (c .into-code .ensures)
 
--- src/into_code.rt:39:5
 returns-2 : tie.Need-returns-2
 returns-2 c = rw (c .before .before .before .self2 .given .1) (rw (c .before .command .ensures) at (c .command-alone .ensures))
 
--- src/into_code.rt:39:5
 returns-3 : tie.Need-returns-3
 returns-3 c = rw (c .before .before .self3 .given .1) (c .command-alone2 .ensures)
 
--- src/into_code.rt:39:5
 returns-4 : tie.Need-returns-4
 returns-4 c = rw (c .before .before .self4 .given .1) (c .command-alone3 .ensures)
 
--- src/into_code.rt:39:5
 returns-5 : tie.Need-returns-5
 returns-5 c = rw (c .before .before .self5 .given .1) (c .command-alone4 .ensures)
 
--- src/into_code.rt:39:5
 returns-6 : tie.Need-returns-6
 returns-6 c = rw (c .before .before .self6 .given .1) (c .command-alone5 .ensures)
 
--- src/into_code.rt:39:5
 returns-7 : tie.Need-returns-7
 returns-7 c = rw (c .before .before .self7 .given .1) (c .command-alone6 .ensures)
 
--- src/into_code.rt:39:5
 returns-8 : tie.Need-returns-8
 returns-8 c = rw (c .before .before .self8 .given .1) (c .tab-alone .ensures)
 
--- src/into_code.rt:39:5
 returns-9 : tie.Need-returns-9
 returns-9 c = rw (c .before .before .self9 .given .1) (c .command-alone7 .ensures)
 
--- src/into_code.rt:39:5
 returns-10 : tie.Need-returns-10
 returns-10 c = rw (c .before .before .self10 .given .1) (c .preamble-alone .ensures)
 
--- src/into_code.rt:39:5
 returns-11 : tie.Need-returns-11
 returns-11 c = rw (c .before .before .self11 .given .1) (c .control-alone .ensures)
 

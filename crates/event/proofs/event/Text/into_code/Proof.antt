@@ -1,45 +1,35 @@
+-- `event::event::Text::into_code` meets its contract: the first character's outcome decides, then the second's.
+-- Assumes nothing.
 use borrow.Author.Needs.{needs}
 use mathlib.Core.Path.{ap, sym, _∙_}
 use Rattle.event.specs.IntoCode.{characterCodeOutcome}
 use Rattle.event.proofs.event.Text.into_code.Statement.{statement}
 use Rattle.event.proofs.event.Text.into_code.Tie as tie
-use Rattle.event.proofs.event.Text.into_code.Reads as reads
-use Rattle.event.proofs.event.Text.into_code.Lts as lts
-use Rattle.event.proofs.into_code.character_code.Reads as character-code-reads
 
--- src/into_code.rt:108:42
 character-code-requires : tie.Need-character-code-requires
 character-code-requires c κs = search needs
 
--- src/into_code.rt:108:33
 enum-known-first : tie.Need-enum-known-first
 enum-known-first c = search needs
 
--- src/into_code.rt:109:13
 enum-told : tie.Need-enum-told
 enum-told c = search needs
 
--- src/into_code.rt:109:13
 returns : tie.Need-returns
 returns c = rw (sym (c .before .before .character-code .ensures) ∙ ap characterCodeOutcome (c .enum-told .given .1))
 
--- src/into_code.rt:111:43
 character-code-requires-2 : tie.Need-character-code-requires-2
 character-code-requires-2 c κs = search needs
 
--- src/into_code.rt:111:33
 enum-known-second : tie.Need-enum-known-second
 enum-known-second c = search needs
 
--- src/into_code.rt:112:13
 enum-told-2 : tie.Need-enum-told-2
 enum-told-2 c = search needs
 
--- src/into_code.rt:112:13
 returns-2 : tie.Need-returns-2
 returns-2 c = rw (sym (c .before .before .before .before .before .before .character-code .ensures) ∙ ap characterCodeOutcome (c .before .before .before .before .first .given .1), sym (c .before .before .character-code2 .ensures) ∙ ap characterCodeOutcome (c .enum-told2 .given .1))
 
--- src/into_code.rt:102:5
 returns-3 : tie.Need-returns-3
 returns-3 c = rw (sym (c .before .before .before .before .before .before .before .character-code .ensures) ∙ ap characterCodeOutcome (c .before .before .before .before .before .first .given .1), sym (c .before .before .before .character-code2 .ensures) ∙ ap characterCodeOutcome (c .before .second .given .1))
 

@@ -1,40 +1,32 @@
+-- `event::id::Id::field` meets its contract, by its four cases.
+-- Assumes nothing.
 use borrow.Author.Needs.{needs}
 use mathlib.Core.Path.{ap, sym}
 use Rattle.event.specs.Id.{fieldOf}
 use Rattle.event.proofs.id.Id.field.Statement.{statement}
 use Rattle.event.proofs.id.Id.field.Tie as tie
-use Rattle.event.proofs.id.Id.field.Reads as reads
-use Rattle.event.proofs.id.Id.field.Lts as lts
 
--- src/id.rt:55:24
 enum-told : tie.Need-enum-told
 enum-told c = search needs
 
--- src/id.rt:56:24
 enum-told-2 : tie.Need-enum-told-2
 enum-told-2 c = search needs
 
--- src/id.rt:57:24
 enum-told-3 : tie.Need-enum-told-3
 enum-told-3 c = search needs
 
--- src/id.rt:58:24
 enum-told-4 : tie.Need-enum-told-4
 enum-told-4 c = search needs
 
--- src/id.rt:51:5
 returns : tie.Need-returns
 returns c = sym (ap fieldOf (c .enum-told .given .1))
 
--- src/id.rt:51:5
 returns-2 : tie.Need-returns-2
 returns-2 c = sym (ap fieldOf (c .enum-told2 .given .1))
 
--- src/id.rt:51:5
 returns-3 : tie.Need-returns-3
 returns-3 c = sym (ap fieldOf (c .enum-told3 .given .1))
 
--- src/id.rt:51:5
 returns-4 : tie.Need-returns-4
 returns-4 c = sym (ap fieldOf (c .enum-told4 .given .1))
 

@@ -1,16 +1,16 @@
-use mathlib.Core.Path.{_≡_, refl, ap, sym, _∙_}
+-- `event::id::Id::from_value` meets its contract: the code tests the number's bits, which tell the number.
+-- Assumes nothing.
 use Prim.Native.Nat.{ℕ}
+use borrow.Author.Tests.{ne-eqb}
 use lib.IntN.{ℤ, pos, negsuc}
+use mathlib.Core.Path.{_≡_, refl, ap, sym, _∙_}
 use mir.Syntax.{w8}
 use mir.Val.{SFits, ofZ, toZ}
 use mir.ValLaws.{toZ-ofZ}
-use borrow.Author.Tests.{ne-eqb}
 use Rattle.code.specs.Outcome.{refused}
 use Rattle.event.specs.Id.{fromValue}
 use Rattle.event.proofs.id.Id.from_value.Statement.{statement}
 use Rattle.event.proofs.id.Id.from_value.Tie as tie
-use Rattle.event.proofs.id.Id.from_value.Reads as reads
-use Rattle.event.proofs.id.Id.from_value.Lts as lts
 
 -- a number is told by its bits
 value-is : (z : ℤ) (k : ℕ) → SFits w8 z → ofZ w8 z ≡ k → z ≡ toZ w8 k
@@ -26,23 +26,18 @@ other (pos n) h1 h2 h3 h4 =
     )
 other (negsuc n) h1 h2 h3 h4 = refl
 
--- src/id.rt:27:5
 returns : tie.Need-returns
 returns c = rw (value-is (c .before .args .value) 1 (c .before .fits .value) (c .match .keys1))
 
--- src/id.rt:27:5
 returns-2 : tie.Need-returns-2
 returns-2 c = rw (value-is (c .before .args .value) 2 (c .before .fits .value) (c .match .keys2))
 
--- src/id.rt:27:5
 returns-3 : tie.Need-returns-3
 returns-3 c = rw (value-is (c .before .args .value) 3 (c .before .fits .value) (c .match .keys3))
 
--- src/id.rt:27:5
 returns-4 : tie.Need-returns-4
 returns-4 c = rw (value-is (c .before .args .value) 4 (c .before .fits .value) (c .match .keys4))
 
--- src/id.rt:27:5
 returns-5 : tie.Need-returns-5
 returns-5 c = other (c .before .args .value) (c .match .rest .0 .0 .0 .1) (c .match .rest .0 .0 .1) (c .match .rest .0 .1) (c .match .rest .1)
 

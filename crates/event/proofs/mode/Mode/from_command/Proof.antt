@@ -1,136 +1,104 @@
+-- `event::mode::Mode::from_command` meets its contract: five commands begin a mode.
+-- Assumes nothing.
 use borrow.Author.Needs.{needs}
 use mathlib.Core.Path.{ap, sym}
 use Rattle.event.specs.Mode.{modeOf}
 use Rattle.event.proofs.mode.Mode.from_command.Statement.{statement}
 use Rattle.event.proofs.mode.Mode.from_command.Tie as tie
-use Rattle.event.proofs.mode.Mode.from_command.Reads as reads
-use Rattle.event.proofs.mode.Mode.from_command.Lts as lts
 
--- src/mode.rt:38:66
 enum-told : tie.Need-enum-told
 enum-told c = search needs
 
--- src/mode.rt:39:35
 enum-told-2 : tie.Need-enum-told-2
 enum-told-2 c = search needs
 
--- src/mode.rt:40:34
 enum-told-3 : tie.Need-enum-told-3
 enum-told-3 c = search needs
 
--- src/mode.rt:41:33
 enum-told-4 : tie.Need-enum-told-4
 enum-told-4 c = search needs
 
--- src/mode.rt:42:42
 enum-told-5 : tie.Need-enum-told-5
 enum-told-5 c = search needs
 
--- src/mode.rt:43:53
 enum-told-6 : tie.Need-enum-told-6
 enum-told-6 c = search needs
 
--- src/mode.rt:44:53
 enum-told-7 : tie.Need-enum-told-7
 enum-told-7 c = search needs
 
--- src/mode.rt:45:53
 enum-told-8 : tie.Need-enum-told-8
 enum-told-8 c = search needs
 
--- src/mode.rt:46:33
 enum-told-9 : tie.Need-enum-told-9
 enum-told-9 c = search needs
 
--- src/mode.rt:47:71
 enum-told-10 : tie.Need-enum-told-10
 enum-told-10 c = search needs
 
--- src/mode.rt:48:37
 enum-told-11 : tie.Need-enum-told-11
 enum-told-11 c = search needs
 
--- src/mode.rt:49:43
 enum-told-12 : tie.Need-enum-told-12
 enum-told-12 c = search needs
 
--- src/mode.rt:50:46
 enum-told-13 : tie.Need-enum-told-13
 enum-told-13 c = search needs
 
--- src/mode.rt:51:40
 enum-told-14 : tie.Need-enum-told-14
 enum-told-14 c = search needs
 
--- src/mode.rt:52:49
 enum-told-15 : tie.Need-enum-told-15
 enum-told-15 c = search needs
 
--- src/mode.rt:53:38
 enum-told-16 : tie.Need-enum-told-16
 enum-told-16 c = search needs
 
--- src/mode.rt:34:5
 returns : tie.Need-returns
 returns c = sym (ap modeOf (c .enum-told .given .1))
 
--- src/mode.rt:34:5
 returns-2 : tie.Need-returns-2
 returns-2 c = search needs
 
--- src/mode.rt:34:5
 returns-3 : tie.Need-returns-3
 returns-3 c = search needs
 
--- src/mode.rt:34:5
 returns-4 : tie.Need-returns-4
 returns-4 c = search needs
 
--- src/mode.rt:34:5
 returns-5 : tie.Need-returns-5
 returns-5 c = search needs
 
--- src/mode.rt:34:5
 returns-6 : tie.Need-returns-6
 returns-6 c = sym (ap modeOf (c .enum-told6 .given .1))
 
--- src/mode.rt:34:5
 returns-7 : tie.Need-returns-7
 returns-7 c = sym (ap modeOf (c .enum-told7 .given .1))
 
--- src/mode.rt:34:5
 returns-8 : tie.Need-returns-8
 returns-8 c = sym (ap modeOf (c .enum-told8 .given .1))
 
--- src/mode.rt:34:5
 returns-9 : tie.Need-returns-9
 returns-9 c = search needs
 
--- src/mode.rt:34:5
 returns-10 : tie.Need-returns-10
 returns-10 c = sym (ap modeOf (c .enum-told10 .given .1))
 
--- src/mode.rt:34:5
 returns-11 : tie.Need-returns-11
 returns-11 c = search needs
 
--- src/mode.rt:34:5
 returns-12 : tie.Need-returns-12
 returns-12 c = search needs
 
--- src/mode.rt:34:5
 returns-13 : tie.Need-returns-13
 returns-13 c = search needs
 
--- src/mode.rt:34:5
 returns-14 : tie.Need-returns-14
 returns-14 c = search needs
 
--- src/mode.rt:34:5
 returns-15 : tie.Need-returns-15
 returns-15 c = search needs
 
--- src/mode.rt:34:5
 returns-16 : tie.Need-returns-16
 returns-16 c = search needs
 
