@@ -109,14 +109,14 @@ impl Cea608State {
     pub(crate) fn text(self, pair: Pair, first: Code, second: Code) -> Decoded
         ensures { λ r. ⌜ decodedOutcome r ≡ heardText self pair first second ⌝ }
     {
-        let last_channel = self.last_channel;
+        let known = self.last_channel;
         let last_field = self.last_received_field;
         let next = Cea608State {
             last_data: LastPair::Was(pair),
-            last_channel: last_channel,
+            last_channel: known,
             last_received_field: last_field,
         };
-        let LastChannel::Known(channel) = last_channel else {
+        let LastChannel::Known(channel) = known else {
             return Decoded {
                 answer: Heard::Nothing,
                 state: next,
@@ -150,11 +150,9 @@ pub(crate) fn is_last(last: LastPair, pair: Pair) -> bool
 {
     match last {
         LastPair::Was(before) => {
-            if before.0 == pair.0 {
-                before.1 == pair.1
-            } else {
-                false
-            }
+            let same0 = before.0 == pair.0;
+            let same1 = before.1 == pair.1;
+            if same0 { same1 } else { false }
         }
         LastPair::Absent => false,
     }

@@ -1,7 +1,6 @@
 -- `receiver::state::is_last` meets its contract: both bytes are compared.
 -- Assumes nothing.
 use borrow.Author.Needs.{needs}
-use borrow.Author.Tests.{eq-eqb, ne-eqb}
 use Rattle.receiver.proofs.state.is_last.Statement.{statement}
 use Rattle.receiver.proofs.state.is_last.Tie as tie
 
@@ -12,10 +11,10 @@ enum-told : tie.Need-enum-told
 enum-told c = search needs
 
 returns : tie.Need-returns
-returns c = rw (c .before .before .before .before .before .before .last .given .1) (simp (eq-eqb _ _ (c .before .before .if1 .taken)))
+returns c = rw (c .before .before .before .before .before .before .last .given .1, c .if1 .taken)
 
 returns-2 : tie.Need-returns-2
-returns-2 c = rw (c .before .before .before .before .last .given .1) (simp (ne-eqb _ _ (c .if1 .left)))
+returns-2 c = rw (c .before .before .before .before .before .before .last .given .1, c .if1 .left)
 
 returns-3 : tie.Need-returns-3
 returns-3 c = search needs
