@@ -1,3 +1,10 @@
+pub mod FirstInFirstOut
+pub mod Fit
+pub mod OneAnswer
+pub mod Order
+pub mod Pairs
 pub mod Places
+pub mod Progress
+pub mod Refines
 pub mod Turns
 pub mod WellFormed
