@@ -1,13 +1,13 @@
 -- The list of a well-formed queue, and that a push and a pop leave one: never above 64 waiting, each waiting code one
 -- that may wait, and no held code or one that may be held.
 -- Assumes nothing.
-use mathlib.Core.Bool.{Bool, true, false, cond, _&&_, not}
+use mathlib.Core.Bool.{Bool, true, false, _&&_, not}
 use mathlib.Core.List.{List, [], _∷_, _++_}
 use mathlib.Core.Option.{Option, none, some}
-use mathlib.Core.Path.{_≡_, refl, ap, ap₂, sym, subst, _∙_}
-use Prim.Native.Nat.{ℕ, zero, suc, _+_, _≤_, _<_}
+use mathlib.Core.Path.{_≡_, refl, sym}
+use Prim.Native.Nat.{ℕ, suc, _+_, _≤_}
 use native.Mathlib.Omega.{arith}
-use lib.Dec.{eqb, lit≤, ltb}
+use lib.Dec.{eqb, lit≤}
 use lib.ListN.{length, length-append}
 use Rattle.code.specs.Code.{byteLen, needsBackspace}
 use Rattle.code.specs.Outcome.{Outcome, answer, refused}
@@ -15,7 +15,7 @@ use Rattle.code.specs.Write.{inDomain}
 use Rattle.code.specs.declared.code.Code.{Code}
 use Rattle.code.specs.declared.code.Code.the-variants as code
 use Rattle.queue.proofs.WellFormed.{both-left, both-right, one-held, stored-has-room}
-use Rattle.queue.specs.Queue.{Queued, queued, Pop, admit, count, empty, entered, heldCodes, ifRoom, isAnswer, isInside, isNul, isSingle, mayBeHeld, mayWait, pop, popCommand, popHeld, popSingle, popTwo, popWaiting, push}
+use Rattle.queue.specs.Queue.{Queued, queued, admit, admitBy, count, empty, entered, isAnswer, isFull, isInside, isNul, isSingle, mayBeHeld, mayWait, pop, popCommand, popHeld, popSingle, popTwo, popWaiting, push}
 use Rattle.queue.specs.Ring.{allMayWait, heldFits}
 
 pub record Fit (v : Queued) : Type 0 where
@@ -31,21 +31,14 @@ pub at-most-65 : (v : Queued) → Fit v → count v ≤ 65
 at-most-65 v f = omega (arith, f .size, one-held (v .held))
 
 -- a code that is stored may wait
-answered : (t : Bool) → cond t (answer true) (refused 7) ≡ answer true → t ≡ true
-answered true e = refl
-answered false e = let z : _≡_ {A = ℕ} 0 1 = cc in absurd (omega arith)
-
-domain-kept : (n : ℕ) (o : Outcome Unit) → ifRoom n o ≡ answer true → isAnswer o ≡ true
-domain-kept n (answer u) e = refl
-domain-kept n (refused k) e = let z : _≡_ {A = ℕ} 0 1 = cc in absurd (omega arith)
-
-kept-by-kind : (t : Bool) (n : ℕ) (o : Outcome Unit) → cond t (answer false) (ifRoom n o) ≡ answer true → (not t && isAnswer o) ≡ true
-kept-by-kind true n o e = let z : _≡_ {A = ℕ} 0 1 = cc in absurd (omega arith)
-kept-by-kind false n o e = domain-kept n o e
+kept : (nul : Bool) (o : Outcome Unit) (full : Bool) → admitBy nul o full ≡ answer true → (not nul && isAnswer o) ≡ true
+kept true o full e = let z : _≡_ {A = ℕ} 0 1 = cc in absurd (omega arith)
+kept false (answer u) full e = refl
+kept false (refused k) full e = let z : _≡_ {A = ℕ} 0 1 = cc in absurd (omega arith)
 
 pub stored-may-wait : (c : Code) (n : ℕ) → admit c n ≡ answer true → mayWait c ≡ true
 unfolding admit
-stored-may-wait c n e = kept-by-kind (isNul c) n (inDomain c) e
+stored-may-wait c n e = kept (isNul c) (inDomain c) (isFull n) e
 
 all-behind : (l : List Code) (c : Code) → allMayWait l ≡ true → mayWait c ≡ true → allMayWait (l ++ (c ∷ [])) ≡ true
 all-behind [] c all one = rw one

@@ -6,5 +6,6 @@ pub mod Pairs
 pub mod Places
 pub mod Progress
 pub mod Refines
+pub mod TriedByHand
 pub mod Turns
 pub mod WellFormed

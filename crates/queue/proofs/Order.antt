@@ -1,13 +1,12 @@
 -- First in first out, of one call on the list: a pop takes from the front of what is inside, a push puts behind it.
 -- Assumes nothing.
-use mathlib.Core.Bool.{Bool, true, false, cond, not}
+use mathlib.Core.Bool.{Bool, true, false, not}
 use mathlib.Core.List.{List, [], _∷_, _++_, append-assoc, append-nil}
 use mathlib.Core.Option.{Option, none, some}
-use mathlib.Core.Path.{_≡_, refl, ap, sym, _∙_}
+use mathlib.Core.Path.{_≡_, refl, sym}
 use Prim.Native.Nat.{ℕ}
 use native.Mathlib.Omega.{arith}
 use borrow.Author.Tests.{not-true}
-use lib.Dec.{ltb}
 use lib.ListN.{length}
 use Rattle.code.specs.Code.{needsBackspace}
 use Rattle.code.specs.Outcome.{Outcome, answer, refused}
@@ -16,7 +15,7 @@ use Rattle.code.specs.declared.code.Code.{Code}
 use Rattle.queue.proofs.Fit.{stored-may-wait}
 use Rattle.queue.proofs.WellFormed.{both-left}
 use Rattle.queue.specs.Calls.{letIn}
-use Rattle.queue.specs.Queue.{Pop, Queued, admit, entered, heldCodes, ifRoom, inside, isInside, isNul, isSingle, pop, popCommand, popHeld, popSingle, popTwo, popWaiting, push, queued}
+use Rattle.queue.specs.Queue.{Pop, Queued, admit, admitBy, entered, heldCodes, inside, isFull, isInside, isNul, isSingle, pop, popCommand, popHeld, popSingle, popTwo, popWaiting, push, queued}
 
 -- of a pop: what was inside is what it took, then what is inside now
 abbrev Keeps : List Code → Pop → Type 0
@@ -51,21 +50,15 @@ pop-takes-from-the-front v = held-keeps (v .held) (v .waiting)
 pub stored-is-not-nul : (c : Code) (n : ℕ) → admit c n ≡ answer true → isNul c ≡ false
 stored-is-not-nul c n e = not-true (isNul c) (both-left (not (isNul c)) (isInside c) (stored-may-wait c n e))
 
-room-stores : (t : Bool) → cond t (answer true) (refused 7) ≡ answer false → ⊥
-room-stores true e = let z : _≡_ {A = ℕ} 0 1 = cc in omega arith
-room-stores false e = let z : _≡_ {A = ℕ} 0 1 = cc in omega arith
-
-domain-stores : (n : ℕ) (o : Outcome Unit) → ifRoom n o ≡ answer false → ⊥
-domain-stores n (answer u) e = room-stores (ltb n 64) e
-domain-stores n (refused k) e = let z : _≡_ {A = ℕ} 0 1 = cc in omega arith
-
-passed-by-kind : (t : Bool) (n : ℕ) (o : Outcome Unit) → cond t (answer false) (ifRoom n o) ≡ answer false → t ≡ true
-passed-by-kind true n o e = refl
-passed-by-kind false n o e = absurd (domain-stores n o e)
+passed : (nul : Bool) (o : Outcome Unit) (full : Bool) → admitBy nul o full ≡ answer false → nul ≡ true
+passed true o full e = refl
+passed false (answer u) true e = let z : _≡_ {A = ℕ} 0 1 = cc in absurd (omega arith)
+passed false (answer u) false e = let z : _≡_ {A = ℕ} 0 1 = cc in absurd (omega arith)
+passed false (refused k) full e = let z : _≡_ {A = ℕ} 0 1 = cc in absurd (omega arith)
 
 pub passed-is-nul : (c : Code) (n : ℕ) → admit c n ≡ answer false → isNul c ≡ true
 unfolding admit
-passed-is-nul c n e = passed-by-kind (isNul c) n (inDomain c) e
+passed-is-nul c n e = passed (isNul c) (inDomain c) (isFull n) e
 
 entered-behind : (o : Outcome Bool) (c : Code) (v : Queued) → admit c (length (v .waiting)) ≡ o → inside (entered o (queued (v .waiting ++ (c ∷ [])) (v .held)) v .1) ≡ inside v ++ letIn c (entered o (queued (v .waiting ++ (c ∷ [])) (v .held)) v .0)
 entered-behind (answer true) c v e =

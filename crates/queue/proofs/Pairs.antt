@@ -12,16 +12,16 @@ use lib.Dec.{eqb, leb, lit<}
 use Rattle.code.proofs.Written.{Sent, SentPair, domain-is-written, nul-sent, read-as-command, read-as-text, settled, written-is-sent}
 use Rattle.code.specs.Code.{byteLen, needsBackspace}
 use Rattle.code.specs.Outcome.{Outcome, answer, refused}
-use Rattle.code.specs.Parity.{isOdd, stripped}
+use Rattle.code.specs.Parity.{stripped}
 use Rattle.code.specs.Read.{isCommand, readPair, single}
-use Rattle.code.specs.Write.{inDomain, pair, writeCode}
+use Rattle.code.specs.Write.{pair, writeCode}
 use Rattle.code.specs.declared.code.Code.{Code}
 use Rattle.code.specs.declared.code.Code.the-variants as code
 use Rattle.code.specs.declared.pair.Pair.{Pair}
 use Rattle.queue.proofs.Fit.{Fit}
 use Rattle.queue.proofs.WellFormed.{both-left, both-right}
-use Rattle.queue.specs.Queue.{Pop, Queued, isAnswer, isInside, isNul, isSingle, mayBeHeld, mayWait, pairOf, pop, popCommand, popHeld, popSingle, popTwo, popWaiting, queued, sent}
-use Rattle.queue.specs.Ring.{allMayWait, heldFits}
+use Rattle.queue.specs.Queue.{Queued, isAnswer, isInside, isNul, isSingle, mayWait, pairOf, pop, popCommand, popHeld, popSingle, popTwo, popWaiting, queued, sent}
+use Rattle.queue.specs.Ring.{allMayWait}
 
 written : (c : Code) (o : Outcome (Pair × ℕ)) → writeCode c ≡ o → isAnswer (settled o) ≡ true → SentPair (sent o)
 written c (answer x) e inside = written-is-sent c (x .0) (x .1) e .0

@@ -5,9 +5,8 @@ use mathlib.Core.Bool.{Bool, true, false, cond}
 use mathlib.Core.List.{List, [], _∷_, _++_}
 use mathlib.Core.Option.{Option, none, some}
 use mathlib.Core.Path.{_≡_, refl, ap, ap₂, sym, subst, _∙_}
-use Prim.Native.Nat.{ℕ, suc, _+_, _-_, _%_, _≤_, _<_}
+use Prim.Native.Nat.{ℕ, suc, _+_, _-_, _≤_, _<_}
 use native.Mathlib.Omega.{arith}
-use lib.Dec.{lit<}
 use lib.ListN.{drop, length, length-set}
 use Rattle.code.specs.Code.{needsBackspace}
 use Rattle.code.specs.Outcome.{Outcome, answer, refused}
@@ -15,9 +14,9 @@ use Rattle.code.specs.declared.code.Code.{Code}
 use Rattle.code.specs.declared.pair.Pair.{Pair}
 use Rattle.queue.proofs.Fit.{Fit, pop-fits, push-fits}
 use Rattle.queue.proofs.Places.{freed-in-front, how-many, over-the-seam, stored-behind}
-use Rattle.queue.proofs.WellFormed.{Formed, formed, stored-has-room, well-formed}
+use Rattle.queue.proofs.WellFormed.{formed, stored-has-room, well-formed}
 use Rattle.queue.specs.Queue.{Pop, Queued, admit, count, entered, isSingle, pop, popCommand, popHeld, popSingle, popTwo, popWaiting, push, queued}
-use Rattle.queue.specs.Ring.{countRing, freeing, freshRing, heldAs, heldIn, popRing, pushRing, stored, tested, turn, view, waitingIn, wellFormed}
+use Rattle.queue.specs.Ring.{countRing, freeing, freshRing, heldAs, heldIn, popRing, pushRing, stored, turn, view, waitingIn, wellFormed}
 use Rattle.queue.specs.declared.pop.Turn.{Turn}
 use Rattle.queue.specs.declared.ring.Queue.{Queue}
 

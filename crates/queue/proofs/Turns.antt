@@ -1,19 +1,18 @@
 -- What a pop does by the first two codes alone: what waits behind them matters neither to the pair, nor to the places
 -- freed, nor to what is held.
 -- Assumes nothing.
-use mathlib.Core.Bool.{Bool, true, false, cond}
+use mathlib.Core.Bool.{Bool, true, false}
 use mathlib.Core.List.{List, [], _∷_}
-use mathlib.Core.Option.{Option, none, some}
+use mathlib.Core.Option.{none, some}
 use mathlib.Core.Path.{_≡_, refl, ap, ap₂, sym, _∙_}
-use Prim.Native.Nat.{ℕ, suc, _+_, _-_, _≤_, _<_}
+use Prim.Native.Nat.{ℕ, suc, _+_, _-_, _<_}
 use native.Mathlib.Omega.{arith}
 use lib.ListN.{length}
-use Rattle.code.specs.Code.{byteLen, needsBackspace}
+use Rattle.code.specs.Code.{needsBackspace}
 use Rattle.code.specs.declared.code.Code.{Code}
-use Rattle.queue.proofs.Places.{first-waits, none-wait}
+use Rattle.queue.proofs.Places.{first-waits}
 use Rattle.queue.specs.Queue.{isSingle, pairOf, pop, popCommand, popSingle, popTwo, queued}
 use Rattle.queue.specs.Ring.{codeAt, codesFrom, turn, turnOf}
-use Rattle.queue.specs.declared.pop.Turn.{Turn}
 use Rattle.queue.specs.declared.ring.Held.the-variants as held
 use Rattle.queue.specs.declared.ring.Slot.{Slot}
 

@@ -1,19 +1,19 @@
 -- What a well-formed state is known by, clause by clause, and how the waiting codes are tested one by one.
 -- Assumes nothing.
-use mathlib.Core.Bool.{Bool, true, false, cond, _&&_}
-use mathlib.Core.List.{List, [], _∷_}
+use mathlib.Core.Bool.{Bool, true, false, _&&_}
+use mathlib.Core.List.{List}
 use mathlib.Core.Option.{Option, none, some}
-use mathlib.Core.Path.{_≡_, refl, ap, sym, _∙_}
+use mathlib.Core.Path.{_≡_, refl, ap, ap₂, _∙_}
 use Prim.Native.Nat.{ℕ, _+_, _-_, _≤_, _<_}
 use native.Mathlib.Omega.{arith}
-use borrow.Author.Tests.{leb-true, le-leb, ltb-true, lt-ltb}
+use borrow.Author.Tests.{leb-false, leb-true, le-leb, ltb-true, lt-ltb}
 use lib.Dec.{leb, lit≤, ltb}
 use lib.ListN.{length}
 use Rattle.code.specs.Outcome.{Outcome, answer, refused}
 use Rattle.code.specs.Write.{inDomain}
 use Rattle.code.specs.declared.code.Code.{Code}
 use Rattle.queue.proofs.Places.{first-waits}
-use Rattle.queue.specs.Queue.{admit, heldCodes, ifRoom, isNul, mayWait}
+use Rattle.queue.specs.Queue.{admit, admitBy, heldCodes, isFull, isNul, mayWait}
 use Rattle.queue.specs.Ring.{allMayWait, codeAt, codesFrom, heldFits, heldIn, waitingIn, wellFormed}
 use Rattle.queue.specs.declared.ring.Queue.{Queue}
 use Rattle.queue.specs.declared.ring.Slot.{Slot}
@@ -63,18 +63,20 @@ one-held none = lit≤ tt
 one-held (some c) = lit≤ tt
 
 -- what is stored found room
-room : (t : Bool) (n : ℕ) → ltb n 64 ≡ t → cond t (answer true) (refused 7) ≡ answer true → n < 64
-room true n e stores = ltb-true n 64 e
-room false n e stores = let z : _≡_ {A = ℕ} 0 1 = cc in absurd (omega arith)
-
-if-room : (n : ℕ) (o : Outcome Unit) → ifRoom n o ≡ answer true → n < 64
-if-room n (answer u) e = room (ltb n 64) n refl e
-if-room n (refused k) e = let z : _≡_ {A = ℕ} 0 1 = cc in absurd (omega arith)
-
-by-kind : (t : Bool) (n : ℕ) (o : Outcome Unit) → cond t (answer false) (ifRoom n o) ≡ answer true → n < 64
-by-kind true n o e = let z : _≡_ {A = ℕ} 0 1 = cc in absurd (omega arith)
-by-kind false n o e = if-room n o e
+room : (nul : Bool) (o : Outcome Unit) (full : Bool) → admitBy nul o full ≡ answer true → full ≡ false
+room true o full e = let z : _≡_ {A = ℕ} 0 1 = cc in absurd (omega arith)
+room false (answer u) true e = let z : _≡_ {A = ℕ} 0 1 = cc in absurd (omega arith)
+room false (answer u) false e = refl
+room false (refused k) full e = let z : _≡_ {A = ℕ} 0 1 = cc in absurd (omega arith)
 
 pub stored-has-room : (c : Code) (n : ℕ) → admit c n ≡ answer true → n < 64
 unfolding admit
-stored-has-room c n e = by-kind (isNul c) n (inDomain c) e
+stored-has-room c n e = leb-false 64 n (room (isNul c) (inDomain c) (isFull n) e)
+
+-- the parts of an admission, each found by itself
+pub admission-is : (c : Code) (n : ℕ) {nul full : Bool} {d : Outcome Unit} {o : Outcome Bool} → o ≡ admitBy nul d full → nul ≡ isNul c → d ≡ inDomain c → full ≡ isFull n → o ≡ admit c n
+unfolding admit
+admission-is c n {full = full} e nul-is domain-is full-is =
+    e
+    ∙ ap₂ (λ (t : Bool) (d : Outcome Unit). admitBy t d full) nul-is domain-is
+    ∙ ap (λ (t : Bool). admitBy (isNul c) (inDomain c) t) full-is

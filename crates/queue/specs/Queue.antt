@@ -4,7 +4,7 @@ use Prim.Native.Nat.{ℕ, _+_}
 use mathlib.Core.Bool.{Bool, true, false, cond, _&&_, not}
 use mathlib.Core.List.{List, [], _∷_, _++_}
 use mathlib.Core.Option.{Option, none, some}
-use lib.Dec.{eqb, ltb}
+use lib.Dec.{eqb, leb}
 use lib.ListN.{length}
 use Rattle.code.specs.Code.{byteLen, needsBackspace}
 use Rattle.code.specs.Outcome.{Outcome, answer, refused}
@@ -59,13 +59,19 @@ abbrev pub mayBeHeld : Code → Bool
 mayBeHeld c = eqb (byteLen c) 2 && isInside c
 
 -- A push. NUL is accepted and not stored; then 2 or 3; then 7: 64 codes are waiting. A held code is not counted.
-abbrev pub ifRoom : ℕ → Outcome Unit → Outcome Bool
-ifRoom n (answer u) = cond (ltb n 64) (answer true) (refused 7)
-ifRoom n (refused k) = refused k
+abbrev pub isFull : ℕ → Bool
+isFull n = leb 64 n
+
+abbrev pub ifRoom : Bool → Outcome Unit → Outcome Bool
+ifRoom full (answer u) = cond full (refused 7) (answer true)
+ifRoom full (refused k) = refused k
+
+abbrev pub admitBy : Bool → Outcome Unit → Bool → Outcome Bool
+admitBy nul domain full = cond nul (answer false) (ifRoom full domain)
 
 -- whether a code that is accepted is stored, with so many waiting
 unfoldable pub admit : Code → ℕ → Outcome Bool
-admit c n = cond (isNul c) (answer false) (ifRoom n (inDomain c))
+admit c n = admitBy (isNul c) (inDomain c) (isFull n)
 
 -- what a push gives, and what it leaves: more where the code is stored, else the same
 abbrev pub entered : {A : Type 0} → Outcome Bool → A → A → Outcome Unit × A

@@ -1,7 +1,8 @@
 // Putting a code into the queue.
 ghost use mathlib.Core.Path.{_≡_};
 ghost use Prim.Native.Nat.{_<_};
-ghost use Rattle.queue.specs.Queue.{admit};
+ghost use Rattle.queue.specs.Queue.{admitBy, isFull};
+ghost use Rattle.code.specs.Write.{domainOutcome};
 ghost use Rattle.queue.specs.Ring.{admissionOutcome, pushOutcome, pushRing, stored};
 use crate::ring::Queue;
 use crate::ring::Slot;
@@ -32,21 +33,19 @@ pub(crate) enum Admission {
     Full,
 }
 
-// What becomes of a code where so many are waiting: NUL passes even then, 2 and 3 come before 7.
-pub(crate) fn admitted(code: Code, waiting: usize) -> Admission
-    ensures { λ r. ⌜ admissionOutcome r ≡ admit code waiting ⌝ }
+// What becomes of a code: NUL passes even where the queue is full, and 2 and 3 come before 7.
+pub(crate) fn admission_of(nul: bool, domain: Domain, full: bool) -> Admission
+    ensures { λ r. ⌜ admissionOutcome r ≡ admitBy nul (domainOutcome domain) full ⌝ }
 {
-    let passes = is_nul(code);
-    if passes {
+    if nul {
         return Admission::NotStored;
     }
-    let limit: usize = 64;
-    match code.domain() {
+    match domain {
         Domain::Inside => {
-            if waiting < limit {
-                Admission::Stored
-            } else {
+            if full {
                 Admission::Full
+            } else {
+                Admission::Stored
             }
         }
         Domain::UnknownByte => Admission::UnknownByte,
@@ -55,6 +54,13 @@ pub(crate) fn admitted(code: Code, waiting: usize) -> Admission
 }
 
 impl Queue {
+    // Whether 64 codes are waiting. A held code is not counted among them.
+    pub(crate) fn is_full(self) -> bool
+        ensures { λ r. ⌜ r ≡ isFull (self .waiting) ⌝ }
+    {
+        64 <= self.waiting
+    }
+
     // The queue with a code behind those that wait, at the place after the last, which is place 0 at the seam.
     pub(crate) fn stored(self, code: Code) -> Queue
         requires { ⌜ (self .start < 64) × (self .waiting < 64) ⌝ }
@@ -79,12 +85,17 @@ impl Queue {
                 queue: self,
             };
         }
-        let waiting = self.waiting;
-        match admitted(code, waiting) {
-            Admission::Stored => Pushed {
-                answer: PushAnswer::Accepted,
-                queue: self.stored(code),
-            },
+        let nul = is_nul(code);
+        let domain = code.domain();
+        let full = self.is_full();
+        match admission_of(nul, domain, full) {
+            Admission::Stored => {
+                let next = self.stored(code);
+                Pushed {
+                    answer: PushAnswer::Accepted,
+                    queue: next,
+                }
+            }
             Admission::NotStored => Pushed {
                 answer: PushAnswer::Accepted,
                 queue: self,

@@ -1,38 +1,28 @@
-use borrow.Author.Tests.{eq-eqb, ne-eqb, le-ltb, lt-ltb, le-leb, lt-leb, not-true, not-false}
+-- `queue::pop::single_turn` meets its contract, by the length of the second code and whether it needs a backspace.
+-- Assumes nothing.
 use borrow.Author.Needs.{needs}
+use borrow.Author.Tests.{eq-eqb, ne-eqb}
 use Rattle.queue.proofs.pop.single_turn.Statement.{statement}
 use Rattle.queue.proofs.pop.single_turn.Tie as tie
-use Rattle.queue.proofs.pop.single_turn.Reads as reads
-use Rattle.queue.proofs.pop.single_turn.Lts as lts
-use Rattle.code.proofs.code.Code.byte_len.Reads as byte-len-reads
-use Rattle.code.proofs.code.Code.needs_backspace.Reads as needs-backspace-reads
-use Rattle.queue.proofs.pop.pair_of.Reads as pair-of-reads
 
--- src/pop.rt:78:9
 pair-of-requires : tie.Need-pair-of-requires
 pair-of-requires c κs = search needs
 
--- src/pop.rt:79:8
 byte-len-requires : tie.Need-byte-len-requires
 byte-len-requires c κs = search needs
 
--- src/pop.rt:80:13
 pair-of-requires-2 : tie.Need-pair-of-requires-2
 pair-of-requires-2 c κs = search needs
 
--- src/pop.rt:81:9
 returns : tie.Need-returns
 returns c = simp (← c .before .before .byte-len .ensures, eq-eqb _ _ (c .before .if1 .taken), c .pair-of2 .ensures, c .before .before .before .pair-of .ensures)
 
--- src/pop.rt:87:8
 needs-backspace-requires : tie.Need-needs-backspace-requires
 needs-backspace-requires c κs = search needs
 
--- src/pop.rt:88:9
 returns-2 : tie.Need-returns-2
 returns-2 c = simp (← c .before .before .before .byte-len .ensures, ne-eqb _ _ (c .before .before .if1 .left), ← c .before .needs-backspace .ensures, c .if2 .taken, c .before .before .before .before .pair-of .ensures)
 
--- src/pop.rt:75:1
 returns-3 : tie.Need-returns-3
 returns-3 c = simp (← c .before .before .before .byte-len .ensures, ne-eqb _ _ (c .before .before .if1 .left), ← c .before .needs-backspace .ensures, c .if2 .left, c .before .before .before .before .pair-of .ensures)
 

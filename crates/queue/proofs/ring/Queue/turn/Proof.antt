@@ -1,36 +1,29 @@
-use Rattle.queue.proofs.Turns.{turn-of-held}
+-- `queue::ring::Queue::turn` meets its contract: a held code goes out and frees no place, else those that wait decide.
+-- Assumes nothing.
+use borrow.Author.Needs.{needs}
+use mathlib.Core.Path.{ap, sym, _∙_}
 use Rattle.code.specs.declared.pair.Pair.{Pair}
+use Rattle.queue.proofs.Turns.{turn-of-held}
+use Rattle.queue.specs.Queue.{queued}
+use Rattle.queue.specs.Ring.{heldIn, turn, waitingIn}
 use Rattle.queue.specs.declared.pop.Turn.{Turn}
 use Rattle.queue.specs.declared.ring.Held.the-variants as held
 use Rattle.queue.specs.declared.ring.Held.{Held}
-use Rattle.queue.specs.Ring.{heldIn, turn, waitingIn}
-use Rattle.queue.specs.Queue.{queued}
-use mathlib.Core.Path.{_≡_, ap, sym, _∙_}
-use borrow.Author.Needs.{needs}
 use Rattle.queue.proofs.ring.Queue.turn.Statement.{statement}
 use Rattle.queue.proofs.ring.Queue.turn.Tie as tie
-use Rattle.queue.proofs.ring.Queue.turn.Reads as reads
-use Rattle.queue.proofs.ring.Queue.turn.Lts as lts
-use Rattle.queue.proofs.pop.pair_of.Reads as pair-of-reads
-use Rattle.queue.proofs.ring.Queue.waiting_turn.Reads as waiting-turn-reads
 
--- src/pop.rt:136:22
 enum-known-held : tie.Need-enum-known-held
 enum-known-held c = search needs
 
--- src/pop.rt:137:23
 pair-of-requires : tie.Need-pair-of-requires
 pair-of-requires c κs = search needs
 
--- src/pop.rt:141:29
 enum-told : tie.Need-enum-told
 enum-told c = search needs
 
--- src/pop.rt:141:29
 waiting-turn-requires : tie.Need-waiting-turn-requires
 waiting-turn-requires c κs = search needs
 
--- src/pop.rt:130:5
 returns : tie.Need-returns
 returns c =
     let q = c .before .before .before .before .args .self in
@@ -38,7 +31,6 @@ returns c =
     ∙ sym (turn-of-held _ (waitingIn q))
     ∙ ap (λ (h : Held). turn (queued (waitingIn q) (heldIn h))) (sym (c .before .before .held .given .1))
 
--- src/pop.rt:130:5
 returns-2 : tie.Need-returns-2
 returns-2 c =
     let q = c .before .before .before .args .self in

@@ -1,16 +1,16 @@
-use Rattle.queue.proofs.WellFormed.{first-fails, first-passes}
-use Rattle.queue.proofs.Places.{none-wait}
-use borrow.Author.Tests.{not-true, not-false}
+-- `queue::ring::Queue::waiting_is_well_formed` meets its contract. The loop's invariant: what is asked of all waiting codes is
+-- what is asked of those from the place that it has reached.
+-- Assumes nothing.
 use borrow.Author.Needs.{needs}
-use mathlib.Core.Path.{_≡_, refl, ap, ap₂, sym, _∙_}
+use borrow.Author.Tests.{not-true, not-false}
 use Prim.Native.Nat.{ℕ, _+_, _-_, _≤_, _<_}
+use mathlib.Core.Path.{_≡_, ap, ap₂, sym, _∙_}
 use native.Mathlib.Omega.{arith}
+use Rattle.queue.proofs.Places.{none-wait}
+use Rattle.queue.proofs.WellFormed.{first-fails, first-passes}
 use Rattle.queue.specs.Ring.{allMayWait, codesFrom, waitingIn}
 use Rattle.queue.proofs.ring.Queue.waiting_is_well_formed.Statement.{statement}
 use Rattle.queue.proofs.ring.Queue.waiting_is_well_formed.Tie as tie
-use Rattle.queue.proofs.ring.Queue.waiting_is_well_formed.Reads as reads
-use Rattle.queue.proofs.ring.Queue.waiting_is_well_formed.Lts as lts
-use Rattle.queue.proofs.well_formed.may_wait.Reads as may-wait-reads
 
 abbrev Inv-loop : tie.InvT-loop
 Inv-loop self start waiting i₀ i = (i ≤ self .waiting) × (allMayWait (waitingIn self) ≡ allMayWait (codesFrom (self .slots) (self .start + i) (self .waiting - i)))
@@ -18,7 +18,6 @@ Inv-loop self start waiting i₀ i = (i ≤ self .waiting) × (allMayWait (waiti
 abbrev μ-loop : tie.MeasureT-loop
 μ-loop self start waiting i₀ i = self .waiting - i
 
--- src/well_formed.rt:76:9
 loop-holds : tie.Need-loop-holds Inv-loop μ-loop
 loop-holds c =
     let q = c .args .t1 in
@@ -26,23 +25,18 @@ loop-holds c =
     let all : q .waiting ≡ q .waiting - 0 = omega arith in
     (search needs, ap₂ (λ (a n : ℕ). allMayWait (codesFrom (q .slots) a n)) same all)
 
--- src/well_formed.rt:77:36
 add-slot : tie.Need-add-slot Inv-loop μ-loop
 add-slot c = search needs
 
--- src/well_formed.rt:77:24
 mul-slot : tie.Need-mul-slot Inv-loop μ-loop
 mul-slot c = search needs
 
--- src/well_formed.rt:77:24
 element-copy-out-slot : tie.Need-element-copy-out-slot Inv-loop μ-loop
 element-copy-out-slot c = search needs
 
--- src/well_formed.rt:79:17
 may-wait-requires : tie.Need-may-wait-requires Inv-loop μ-loop
 may-wait-requires c κs = search needs
 
--- src/well_formed.rt:80:17
 returns : tie.Need-returns Inv-loop μ-loop
 returns c =
     let q = c .before .before .before .before .before .args .t1 in
@@ -50,15 +44,12 @@ returns c =
     let told : i < q .waiting = c .before .before .before .loop-test .taken in
     sym (c .before .before .before .before .loop .inv .1 ∙ first-fails (q .slots) (q .start + i) (q .waiting - i) (omega arith) (sym (c .before .may-wait .ensures) ∙ not-true (c .before .may-wait .result) (c .if1 .taken)))
 
--- src/well_formed.rt:82:13
 add-i : tie.Need-add-i Inv-loop μ-loop
 add-i c = search needs
 
--- src/well_formed.rt:76:9
 loop-less : tie.Need-loop-less Inv-loop μ-loop
 loop-less c = search needs
 
--- src/well_formed.rt:76:9
 loop-again : tie.Need-loop-again Inv-loop μ-loop
 loop-again c =
     let q = c .before .before .before .before .before .args .t1 in
@@ -69,7 +60,6 @@ loop-again c =
     let passes = first-passes (q .slots) (q .start + i) (q .waiting - i) (omega arith) (sym (c .before .may-wait .ensures) ∙ not-false (c .before .may-wait .result) (c .if1 .left)) in
     (search needs, c .before .before .before .before .loop .inv .1 ∙ passes ∙ ap₂ (λ (a n : ℕ). allMayWait (codesFrom (q .slots) a n)) on less)
 
--- src/well_formed.rt:69:5
 returns-2 : tie.Need-returns-2 Inv-loop μ-loop
 returns-2 c =
     let q = c .before .before .args .t1 in
