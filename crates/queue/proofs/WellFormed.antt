@@ -13,8 +13,8 @@ use Rattle.code.specs.Outcome.{Outcome, answer, refused}
 use Rattle.code.specs.Write.{inDomain}
 use Rattle.code.specs.declared.code.Code.{Code}
 use Rattle.queue.proofs.Places.{first-waits}
-use Rattle.queue.specs.Queue.{admit, admitBy, heldCodes, isFull, isNul, mayWait}
-use Rattle.queue.specs.Ring.{allMayWait, codeAt, codesFrom, heldFits, heldIn, waitingIn, wellFormed}
+use Rattle.queue.specs.Queue.{admit, admitBy, entered, heldCodes, isFull, isNul, mayWait}
+use Rattle.queue.specs.Ring.{allMayWait, codeAt, codesFrom, heldFits, heldIn, pushRing, stored, waitingIn, wellFormed}
 use Rattle.queue.specs.declared.ring.Queue.{Queue}
 use Rattle.queue.specs.declared.ring.Slot.{Slot}
 
@@ -80,3 +80,8 @@ admission-is c n {full = full} e nul-is domain-is full-is =
     e
     ∙ ap₂ (λ (t : Bool) (d : Outcome Unit). admitBy t d full) nul-is domain-is
     ∙ ap (λ (t : Bool). admitBy (isNul c) (inDomain c) t) full-is
+
+-- what a push of a well-formed state gives, by its admission
+pub pushed-as : (q : Queue) (c : Code) → wellFormed q ≡ true → (o : Outcome Bool) → o ≡ admit c (q .waiting) → entered o (stored q c) q ≡ pushRing q c
+unfolding pushRing
+pushed-as q c e o admission = rw e (ap (λ (x : Outcome Bool). entered x (stored q c) q) admission)

@@ -63,9 +63,9 @@ pub(crate) fn command_turn(command: Code) -> Turn
 pub(crate) fn last_turn(code: Code) -> Turn
     ensures { λ r. ⌜ r ≡ turnOf 1 (popSingle code []) ⌝ }
 {
-    let sent = pair_of(code);
+    let alone = pair_of(code);
     Turn {
-        pair: Pair(sent.0, 0x80),
+        pair: Pair(alone.0, 0x80),
         freed: 1,
         held: Held::Absent,
     }

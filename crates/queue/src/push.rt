@@ -58,7 +58,8 @@ impl Queue {
     pub(crate) fn is_full(self) -> bool
         ensures { λ r. ⌜ r ≡ isFull (self .waiting) ⌝ }
     {
-        64 <= self.waiting
+        let waiting = self.waiting;
+        64 <= waiting
     }
 
     // The queue with a code behind those that wait, at the place after the last, which is place 0 at the seam.
