@@ -2,38 +2,61 @@
 mod code_query;
 mod from_bytes;
 mod query;
+mod queue_query;
 mod to_bytes;
 
 ghost use Prim.Native.Nat.{_+_, _≤_};
 ghost use mathlib.Core.Path.{_≡_};
 ghost use lib.ListN.{length};
+use crate::query::State;
 use libc::STDIN_FILENO;
 use libc::STDOUT_FILENO;
 
 fn main() {
     let mut input = io::large_buffer();
     let mut output = io::large_buffer();
+    let mut state = query::fresh();
+    let mut more = true;
     let mut turns = u64::MAX;
-    while turns > 0 && answer_block(&mut input, &mut output) {
+    while turns > 0 && more {
+        let block = answer_block(state, &mut input, &mut output);
+        state = block.state;
+        more = block.more;
         turns -= 1;
     }
 }
 
-// Reads as much as there is room for, answers each whole query, and says whether there may be more.
-fn answer_block(input: &mut [u8], output: &mut [u8]) -> bool
+// The state after a block of queries, and whether there may be more.
+struct Block {
+    state: State,
+    more: bool,
+}
+
+// Reads as much as there is room for and answers each whole query.
+fn answer_block(before: State, input: &mut [u8], output: &mut [u8]) -> Block
     requires { ⌜ length (now input) ≤ length (now output) ⌝ }
 {
+    let mut state = before;
     let got = io::read_full(STDIN_FILENO, input);
     let whole = got / 16 * 16;
     let mut at: usize = 0;
     while at < whole {
-        put_answer(output, at, query::answer(asked_at(input, at)));
+        let answered = query::answer(state, asked_at(input, at));
+        let answer = answered.answer;
+        put_answer(output, at, answer);
+        state = answered.state;
         at += 16;
     }
     if io::write_all(STDOUT_FILENO, &output[..whole]) {
-        return got == input.len();
+        return Block {
+            state: state,
+            more: got == input.len(),
+        };
     }
-    false
+    Block {
+        state: state,
+        more: false,
+    }
 }
 
 // The query at a place of the input.

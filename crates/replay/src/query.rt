@@ -1,5 +1,25 @@
-// Which layer a query asks.
+// Which layer a query asks, and what is kept from query to query.
 use crate::code_query;
+use crate::queue_query;
+use queue::Queue;
+
+// What queries change and later queries ask. A layer that keeps something has a field here.
+pub(crate) struct State {
+    pub queue: Queue,
+}
+
+// An answer, and the state for the next query.
+pub(crate) struct Answered {
+    pub answer: [u8; 16],
+    pub state: State,
+}
+
+// The state before the first query.
+pub(crate) fn fresh() -> State {
+    State {
+        queue: Queue::new(),
+    }
+}
 
 // What is not in the format.
 pub(crate) fn not_a_query() -> [u8; 16] {
@@ -9,6 +29,24 @@ pub(crate) fn not_a_query() -> [u8; 16] {
 }
 
 // The answer to a query.
-pub(crate) fn answer(asked: [u8; 16]) -> [u8; 16] {
-    code_query::answer(asked)
+pub(crate) fn answer(state: State, asked: [u8; 16]) -> Answered {
+    let kind = asked[0];
+    if queue_query::asks_queue(kind) {
+        return ask_queue(state, asked);
+    }
+    Answered {
+        answer: code_query::answer(asked),
+        state: state,
+    }
+}
+
+fn ask_queue(state: State, asked: [u8; 16]) -> Answered {
+    let queue = state.queue;
+    let asked_queue = queue_query::answer(queue, asked);
+    let answer = asked_queue.answer;
+    let next = asked_queue.queue;
+    Answered {
+        answer: answer,
+        state: State { queue: next },
+    }
 }

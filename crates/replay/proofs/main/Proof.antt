@@ -7,54 +7,59 @@ use Rattle.replay.proofs.main.Reads as reads
 use Rattle.replay.proofs.main.Lts as lts
 use Rattle.io.proofs.large_buffer.Reads as large-buffer-reads
 use Rattle.replay.proofs.answer_block.Reads as answer-block-reads
+use Rattle.replay.proofs.query.fresh.Reads as fresh-reads
 
 abbrev Inv-loop : tie.InvT-loop
-Inv-loop input₀ output₀ turns₀ input output turns = (65536 ≡ length input) × (65536 ≡ length output)
+Inv-loop input₀ output₀ state₀ more₀ turns₀ input output state more turns = (65536 ≡ length input) × (65536 ≡ length output)
 
 abbrev μ-loop : tie.MeasureT-loop
-μ-loop input₀ output₀ turns₀ input output turns = turns
+μ-loop input₀ output₀ state₀ more₀ turns₀ input output state more turns = turns
 
--- src/main.rt:15:21
+-- src/main.rt:16:21
 large-buffer-requires : tie.Need-large-buffer-requires Inv-loop μ-loop
 large-buffer-requires c κs = search needs
 
--- src/main.rt:16:22
+-- src/main.rt:17:22
 large-buffer-requires-2 : tie.Need-large-buffer-requires-2 Inv-loop μ-loop
 large-buffer-requires-2 c κs = search needs
 
--- src/main.rt:18:5
+-- src/main.rt:18:9
+fresh-requires : tie.Need-fresh-requires Inv-loop μ-loop
+fresh-requires c κs = search needs
+
+-- src/main.rt:21:5
 loop-holds : tie.Need-loop-holds Inv-loop μ-loop
 loop-holds c = search needs
 
--- src/main.rt:18:37
+-- src/main.rt:22:41
 slice-aggregate-answer-block : tie.Need-slice-aggregate-answer-block Inv-loop μ-loop
 slice-aggregate-answer-block c = search needs
 
--- src/main.rt:18:49
+-- src/main.rt:22:53
 slice-aggregate-answer-block-2 : tie.Need-slice-aggregate-answer-block-2 Inv-loop μ-loop
 slice-aggregate-answer-block-2 c = search needs
 
--- src/main.rt:18:24
+-- src/main.rt:22:13
 answer-block-requires : tie.Need-answer-block-requires Inv-loop μ-loop
 answer-block-requires c κs = search needs
 
--- src/main.rt:19:9
+-- src/main.rt:25:9
 sub-turns : tie.Need-sub-turns Inv-loop μ-loop
 sub-turns c = search needs
 
--- src/main.rt:18:5
+-- src/main.rt:21:5
 loop-less : tie.Need-loop-less Inv-loop μ-loop
 loop-less c = search needs
 
--- src/main.rt:18:5
+-- src/main.rt:21:5
 loop-again : tie.Need-loop-again Inv-loop μ-loop
 loop-again c = search needs
 
--- src/main.rt:14:1
+-- src/main.rt:15:1
 returns : tie.Need-returns Inv-loop μ-loop
 returns c = search needs
 
--- src/main.rt:14:1
+-- src/main.rt:15:1
 returns-2 : tie.Need-returns-2 Inv-loop μ-loop
 returns-2 c = search needs
 
@@ -66,6 +71,7 @@ main-spec =
     μ-loop
     large-buffer-requires
     large-buffer-requires-2
+    fresh-requires
     loop-holds
     slice-aggregate-answer-block
     slice-aggregate-answer-block-2
