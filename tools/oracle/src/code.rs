@@ -37,7 +37,7 @@ pub fn read_pair(to: &mut Transcript, pair: [u8; 2]) {
 }
 
 /// What a code is written as and its length, or the number of the refusal.
-fn written(code: Code) -> Result<([u8; 2], u8), u8> {
+pub fn written(code: Code) -> Result<([u8; 2], u8), u8> {
     let answer = ask(|| {
         let mut bytes = [0; 2];
         let length = code.write_into(&mut bytes);

@@ -10,6 +10,8 @@ mod code;
 mod code_sets;
 mod names;
 mod panics;
+mod queue;
+mod queue_sets;
 mod random;
 mod sample;
 mod transcript;
@@ -23,13 +25,15 @@ const USAGE: &str = "usage: oracle sets | make SET QUERIES ANSWERS | compare QUE
 
 type Set = (&'static str, fn(&mut Transcript));
 
-const SETS: [Set; 6] = [
+const SETS: [Set; 8] = [
     ("sample", sample::sample),
     ("pairs", code_sets::pairs),
     ("singles", code_sets::singles),
     ("controls", code_sets::controls),
     ("from_char", code_sets::from_char),
     ("constructors", code_sets::constructors),
+    ("queue", queue_sets::calls),
+    ("queue_ill_formed", queue_sets::ill_formed),
 ];
 
 fn main() {

@@ -4,6 +4,7 @@
 use crate::code::*;
 use crate::code_sets::{table_characters, CHANNELS, FIELDS, FIELDS_OR_NONE, FLAGS};
 use crate::names::{COLOURS, COMMANDS, LETTERS, MID_ROW_COLOURS, STYLES, SYMBOLS, TABS};
+use crate::queue_sets;
 use crate::random::Random;
 use crate::transcript::Transcript;
 use cea608_types::tables::{Channel, Code, Control, Field};
@@ -30,6 +31,7 @@ pub fn sample(to: &mut Transcript) {
     ] {
         parity(to, byte);
     }
+    queue_sets::sample(to);
 }
 
 /// Adds parity to two stripped bytes and asks for the pair.
