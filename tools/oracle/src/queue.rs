@@ -105,7 +105,8 @@ impl<'a> Asked<'a> {
             self.writer.pop();
         }
         for place in 0..pieces.waiting {
-            self.writer.push(pieces.slots[(pieces.start + place) % PLACES]);
+            self.writer
+                .push(pieces.slots[(pieces.start + place) % PLACES]);
         }
     }
 

@@ -28,6 +28,10 @@ const STRETCHES: usize = 8;
 pub fn calls(to: &mut Transcript) {
     let mut random = Random::from_seed(seed());
     let mut asked = Asked::new(to);
+    every_unknown(&mut asked);
+    every_command_that_needs_a_backspace(&mut asked);
+    every_three_kinds(&mut asked);
+    refusals_change_nothing(&mut asked, &mut random);
     for round in 0..ROUNDS {
         if round % 3 == 0 {
             asked.reset();
@@ -44,6 +48,92 @@ pub fn calls(to: &mut Transcript) {
         }
     }
     reached_every_answer(&asked);
+}
+
+/// Each `Unknown` of one byte, by itself and on either side of a letter.
+fn every_unknown(asked: &mut Asked) {
+    for byte in 0..=0xFF {
+        let unknown = Code::Unknown(byte);
+        for codes in [
+            &[unknown][..],
+            &[LETTERS[33], unknown],
+            &[unknown, LETTERS[33]],
+        ] {
+            push_all_and_pop(asked, codes);
+        }
+    }
+}
+
+/// By itself, after one single code and after two.
+fn every_command_that_needs_a_backspace(asked: &mut Asked) {
+    let mid_rows = (0..MID_ROW_COLOURS).map(|colour| mid_row_code(colour, false));
+    for code in mid_rows.chain(SYMBOLS[16..].iter().copied()) {
+        let (command, letter) = (plain(code), LETTERS[33]);
+        for codes in [
+            &[command][..],
+            &[letter, command],
+            &[letter, letter, command],
+        ] {
+            push_all_and_pop(asked, codes);
+        }
+    }
+}
+
+/// Every sequence of three codes of these kinds.
+fn every_three_kinds(asked: &mut Asked) {
+    let kinds = [
+        Code::NUL,
+        LETTERS[33],
+        Code::Unknown(0x14),
+        Code::Unknown(0x80),
+        plain(mid_row_code(0, false)),
+        plain(SYMBOLS[16]),
+        plain(SYMBOLS[0]),
+        plain(COMMANDS[5]),
+        plain(preamble_code(14, STYLES[8], false)),
+        plain(preamble_code(15, STYLES[8], false)),
+        plain(Control::Unknown([0x41, 0x42])),
+        plain(Control::Unknown([0x14, 0x80])),
+    ];
+    for first in kinds {
+        for second in kinds {
+            for third in kinds {
+                push_all_and_pop(asked, &[first, second, third]);
+            }
+        }
+    }
+}
+
+fn push_all_and_pop(asked: &mut Asked, codes: &[Code]) {
+    for &code in codes {
+        asked.push(code);
+        asked.count();
+    }
+    run_empty(asked);
+}
+
+/// A push that is refused, NUL and a count leave the state the same in every piece.
+fn refusals_change_nothing(asked: &mut Asked, random: &mut Random) {
+    for waiting in [0, 1, 63, 64] {
+        for start in [0, 1, 63] {
+            let pieces = Pieces {
+                slots: [(); PLACES].map(|()| waiting_code(random)),
+                start,
+                waiting,
+                ..well_formed(random)
+            };
+            asked.set_well_formed(&pieces);
+            asked.push(Code::NUL);
+            for code in outside_the_domain() {
+                asked.push(code);
+            }
+            if waiting == PLACES {
+                asked.push(LETTERS[33]);
+            }
+            asked.count();
+            asked.read_back(&pieces);
+        }
+    }
 }
 
 /// Pushes until so many are inside, or for a while against the limit, then pops some.
@@ -93,7 +183,11 @@ fn any_code(random: &mut Random) -> Code {
         6 | 7 => any_control(random, needs_backspace),
         8 | 9 => any_control(random, needs_none),
         10 => any_control(random, |random| {
-            preamble_code(random.byte_below(17), random.pick(&STYLES), random.pick(&FLAGS))
+            preamble_code(
+                random.byte_below(17),
+                random.pick(&STYLES),
+                random.pick(&FLAGS),
+            )
         }),
         _ => any_control(random, |random| {
             let [first, second, ..] = random.below(0x1_0000).to_le_bytes();
