@@ -1,3 +1,4 @@
+pub mod Answers
 pub mod FirstInFirstOut
 pub mod Fit
 pub mod OneAnswer

@@ -3,9 +3,11 @@
 //!     oracle sets                          the names of the sets
 //!     oracle make SET QUERIES ANSWERS      writes a set's queries and the crate's answers
 //!     oracle compare QUERIES ANSWERS GOT   compares what `replay` wrote with the crate's answers
+//!     oracle bench-queue WAITING QUERIES BASELINE   times the crate's push and pop; see `bench`
 //!
 //! A layer above the code layer adds its queries in a module like `code`, and its sets to `SETS`.
 
+mod bench;
 mod code;
 mod code_sets;
 mod names;
@@ -44,6 +46,7 @@ fn main() {
         ["sets"] => list_sets(),
         ["make", set, queries, answers] => make(set, queries, answers),
         ["compare", queries, answers, got] => compare(queries, answers, got),
+        ["bench-queue", waiting, queries, baseline] => bench_queue(waiting, queries, baseline),
         _ => Err(USAGE.into()),
     };
     if let Err(text) = done {
@@ -77,6 +80,18 @@ fn compare(queries: &str, answers: &str, got: &str) -> Result<(), String> {
     };
     let count = transcript.compare(&load(got)?)?;
     println!("{count} queries, no difference");
+    Ok(())
+}
+
+fn bench_queue(waiting: &str, queries: &str, baseline: &str) -> Result<(), String> {
+    let waiting = waiting
+        .parse()
+        .map_err(|error| format!("{waiting}: {error}"))?;
+    let (mut calls, mut none) = (Transcript::default(), Transcript::default());
+    let nanoseconds = bench::queue(waiting, &mut calls, &mut none);
+    save(queries, &calls.queries)?;
+    save(baseline, &none.queries)?;
+    println!("{} {nanoseconds:.1}", bench::calls());
     Ok(())
 }
 
