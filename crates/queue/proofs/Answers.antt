@@ -1,7 +1,7 @@
 -- What every answer of the ring is known by, whatever state was handed in: a popped pair has odd parity and is a command
 -- where its first stripped byte says so, a count is at most 65, and a pop of a queue that is not empty makes progress.
 -- Assumes nothing.
-use mathlib.Core.Bool.{Bool, true, false, cond}
+use mathlib.Core.Bool.{Bool, true, false}
 use mathlib.Core.Path.{_≡_, refl, ap, sym, subst, _∙_}
 use Prim.Native.Nat.{ℕ, _≤_, _<_}
 use native.Mathlib.Omega.{arith}

@@ -4,16 +4,16 @@
 use mathlib.Core.Bool.{Bool, true, false, _&&_, not}
 use mathlib.Core.List.{List, [], _∷_, _++_}
 use mathlib.Core.Option.{Option, none, some}
-use mathlib.Core.Path.{_≡_, refl, sym}
+use mathlib.Core.Path.{_≡_, refl}
 use Prim.Native.Nat.{ℕ, suc, _+_, _≤_}
 use native.Mathlib.Omega.{arith}
-use lib.Dec.{eqb, lit≤}
+use lib.Dec.{lit≤}
 use lib.ListN.{length, length-append}
-use Rattle.code.specs.Code.{byteLen, needsBackspace}
+use Rattle.code.proofs.Lengths.{not-one-is-two}
+use Rattle.code.specs.Code.{needsBackspace}
 use Rattle.code.specs.Outcome.{Outcome, answer, refused}
 use Rattle.code.specs.Write.{inDomain}
 use Rattle.code.specs.declared.code.Code.{Code}
-use Rattle.code.specs.declared.code.Code.the-variants as code
 use Rattle.queue.proofs.WellFormed.{both-left, both-right, one-held, stored-has-room}
 use Rattle.queue.specs.Queue.{Queued, queued, admit, admitBy, count, empty, entered, isAnswer, isFull, isInside, isNul, isSingle, mayBeHeld, mayWait, pop, popCommand, popHeld, popSingle, popTwo, popWaiting, push}
 use Rattle.queue.specs.Ring.{allMayWait, heldFits}
@@ -61,16 +61,9 @@ entered-fits (refused n) c v e f = f
 pub push-fits : (c : Code) (v : Queued) → Fit v → Fit (push c v .1)
 push-fits c v f = entered-fits (admit c (length (v .waiting))) c v refl f
 
--- a code that is no single code has two bytes
-two-bytes : (c : Code) → isSingle c ≡ false → eqb (byteLen c) 2 ≡ true
-two-bytes code.Nul e = sym e
-two-bytes (code.Control c) e = refl
-two-bytes (code.Letter l) e = sym e
-two-bytes (code.Unknown b) e = sym e
-
--- so a waiting command may be held
+-- a waiting code that is no single code may be held
 pub command-may-be-held : (c : Code) → isSingle c ≡ false → mayWait c ≡ true → mayBeHeld c ≡ true
-command-may-be-held c e may = rw (two-bytes c e) (both-right (not (isNul c)) (isInside c) may)
+command-may-be-held c e may = rw (not-one-is-two c e) (both-right (not (isNul c)) (isInside c) may)
 
 -- the waiting codes with n places to spare
 record Spare (n : ℕ) (l : List Code) : Type 0 where

@@ -8,15 +8,15 @@ use mathlib.Core.Path.{_≡_, refl, ap, sym, _∙_}
 use Prim.Native.Nat.{ℕ}
 use native.Mathlib.Omega.{arith}
 use lib.Count.{ones, onesIn}
-use lib.Dec.{eqb, leb, lit<}
+use lib.Dec.{eqb, lit<}
+use Rattle.code.proofs.Lengths.{text-has-one-byte}
 use Rattle.code.proofs.Written.{Sent, SentPair, domain-is-written, nul-sent, read-as-command, read-as-text, settled, written-is-sent}
 use Rattle.code.specs.Code.{byteLen, needsBackspace}
 use Rattle.code.specs.Outcome.{Outcome, answer, refused}
 use Rattle.code.specs.Parity.{stripped}
-use Rattle.code.specs.Read.{isCommand, readPair, single}
+use Rattle.code.specs.Read.{isCommand, readPair}
 use Rattle.code.specs.Write.{pair, writeCode}
 use Rattle.code.specs.declared.code.Code.{Code}
-use Rattle.code.specs.declared.code.Code.the-variants as code
 use Rattle.code.specs.declared.pair.Pair.{Pair}
 use Rattle.queue.proofs.Fit.{Fit}
 use Rattle.queue.proofs.WellFormed.{both-left, both-right}
@@ -82,22 +82,11 @@ abbrev pub readsCommand : Outcome (Code × Code) → Bool
 readsCommand (answer x) = not (isSingle (x .0))
 readsCommand (refused n) = false
 
-printed : (t : Bool) (l : Code) (b : ℕ) → isSingle l ≡ true → isSingle (cond t l (code.Unknown b)) ≡ true
-printed true l b e = e
-printed false l b e = refl
-
-or-nul : (t : Bool) (c : Code) → isSingle c ≡ true → isSingle (cond t code.Nul c) ≡ true
-or-nul true c e = refl
-or-nul false c e = e
-
-text-is-single : (b : ℕ) → isSingle (single b) ≡ true
-text-is-single b = or-nul (eqb b 0) _ (printed (leb 0x20 b) _ b refl)
-
 read-by : (p : Pair) (t : Bool) → SentPair p → isCommand (stripped (p .0)) ≡ t → readsCommand (readPair (p .0) (p .1)) ≡ t
 read-by p true s e = ap readsCommand (read-as-command (p .0) (p .1) (s .first .odd) (s .second .odd) e)
 read-by p false s e =
     ap readsCommand (read-as-text (p .0) (p .1) (s .first .odd) (s .second .odd) e)
-    ∙ ap not (text-is-single (stripped (p .0)))
+    ∙ ap (λ (n : ℕ). not (eqb n 1)) (text-has-one-byte (stripped (p .0)))
 
 -- a popped pair is a command pair exactly where its stripped first byte is 10 to 1F
 pub popped-command : (v : Queued) → Fit v → readsCommand (readPair (pop v .pair .0) (pop v .pair .1)) ≡ isCommand (stripped (pop v .pair .0))
