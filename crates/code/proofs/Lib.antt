@@ -3,6 +3,7 @@ pub mod Bytes
 pub mod First
 pub mod Increasing
 pub mod Keys
+pub mod Lengths
 pub mod Lookup
 pub mod Meaning
 pub mod Numbers

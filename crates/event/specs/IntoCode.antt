@@ -1,6 +1,7 @@
--- The codes that say an event, for a field, from 01: a control code and NUL, or the codes of one or two characters.
--- Refusal 3 is for a row above 14, 4 for a tab count other than 1, 2, 3, and 5 for a character that no code has, the
--- first looked up before the second. A refusal gives no code at all.
+-- The codes that say an event, for a field. Which they are is the crate's: a control code of that field and NUL, or the
+-- codes of two characters, NUL for one that is absent. The refusals are 01's: 3 for a row above 14, 4 for a tab count
+-- other than 1, 2, 3, and 5 for a character that no code has, the first looked up before the second. A refusal gives no
+-- code at all.
 use Prim.Native.Nat.{ℕ}
 use mathlib.Core.Bool.{cond}
 use lib.Dec.{leb}
@@ -27,11 +28,11 @@ use Rattle.event.specs.declared.into_code.CharacterCode.the-variants as 
 use Rattle.event.specs.declared.into_code.IntoCode.{IntoCode}
 use Rattle.event.specs.declared.into_code.IntoCode.the-variants as into
 
--- two codes, or a refusal; of refusal 5 also whether it is for the first or the second character
+-- two codes, or 01's number of a refusal; for a character also whether it is the first or the second
 pub data Turned : Type 0 where
   codes : Code → Code → Turned
   refusal : ℕ → Turned
-  no-character : ℕ → Turned
+  no-character : ℕ → ℕ → Turned
 
 -- a control code and NUL
 abbrev pub alone : Field → Channel → Control → Turned
@@ -57,11 +58,11 @@ characterCode character.Absent ch = answer code.Nul
 
 abbrev pub behind : Code → Outcome Code → Turned
 behind x (answer y) = codes x y
-behind x (refused n) = no-character 2
+behind x (refused n) = no-character 2 n
 
 abbrev pub inOrder : Outcome Code → Outcome Code → Turned
 inOrder (answer x) second = behind x second
-inOrder (refused n) second = no-character 1
+inOrder (refused n) second = no-character 1 n
 
 abbrev pub textCodes : Text → Turned
 textCodes t = inOrder (characterCode (t .char1) (t .channel)) (characterCode (t .char2) (t .channel))
@@ -83,14 +84,8 @@ abbrev pub intoCodeOutcome : IntoCode → Turned
 intoCodeOutcome (into.Codes x y) = codes x y
 intoCodeOutcome into.NoSuchRow = refusal 3
 intoCodeOutcome into.NoSuchTab = refusal 4
-intoCodeOutcome into.NoSuchFirst = no-character 1
-intoCodeOutcome into.NoSuchSecond = no-character 2
-
--- 01's number of what was refused
-abbrev pub numberOf : Turned → Outcome (Code × Code)
-numberOf (codes x y) = answer (x, y)
-numberOf (refusal n) = refused n
-numberOf (no-character n) = refused 5
+intoCodeOutcome into.NoSuchFirst = no-character 1 5
+intoCodeOutcome into.NoSuchSecond = no-character 2 5
 
 abbrev pub characterCodeOutcome : CharacterCode → Outcome Code
 characterCodeOutcome (made.Made x) = answer x

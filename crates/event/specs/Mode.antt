@@ -1,5 +1,6 @@
 -- The presentation modes and the commands that begin them, from 47 CFR 79.101: resume caption loading begins pop-on,
--- resume direct captioning paint-on, and the three roll-up commands windows of two, three and four rows.
+-- resume direct captioning paint-on, and the three roll-up commands windows of two, three and four rows. That end of
+-- caption, which puts a set into pop-on too, is an event of its own and no new mode is the crate's.
 use Prim.Native.Nat.{ℕ}
 use mathlib.Core.Bool.{Bool, true, false}
 use mathlib.Core.Option.{Option, none, some}

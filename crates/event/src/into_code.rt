@@ -33,7 +33,7 @@ pub(crate) enum CharacterCode {
 }
 
 impl Cea608 {
-    // The event's codes for a field, NUL where there is only one.
+    // The event's codes for a field: a control code and NUL, or two characters, NUL for one that is absent.
     pub fn into_code(self, field: Field) -> IntoCode
         ensures { λ r. ⌜ intoCodeOutcome r ≡ codesOf self field ⌝ }
     {

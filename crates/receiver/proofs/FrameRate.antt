@@ -1,6 +1,7 @@
 -- The frame-rate law: padding put in or taken out, at any places where no repeat is awaited, changes no event, nor the
--- order of events, nor the channel or the field in the end. And the case that its limit is real: padding put between the
--- two copies of a carriage return, or of any command, makes it act twice.
+-- order of events, no refusal, nor the channel or the field in the end, and what comes after cannot tell the two states
+-- apart. And the case that its limit is real: padding put between the two copies of a carriage return makes it scroll
+-- twice.
 -- Assumes nothing.
 use mathlib.Core.Bool.{Bool, true, false, cond, _&&_, true≢false}
 use mathlib.Core.List.{List, [], _∷_}
@@ -22,9 +23,9 @@ use Rattle.code.specs.declared.control.ControlCode.{ControlCode}
 use Rattle.code.specs.declared.pair.Pair.{Pair}
 use Rattle.event.specs.declared.event.Cea608.{Cea608}
 use Rattle.event.specs.declared.event.Cea608.the-variants as event
-use Rattle.receiver.specs.Padding.{awaits, padding, Quiet, Repadded}
+use Rattle.receiver.specs.Padding.{Alike, awaits, padding, Quiet, Repadded}
 use Rattle.receiver.specs.Padding as repadded
-use Rattle.receiver.specs.Reading.{after, answers, events}
+use Rattle.receiver.specs.Reading.{after, answers, events, said}
 use Rattle.receiver.specs.Receiver.{afterReading, fieldAfter, fresh, heardCodes, heardText, isLast, state, step, Stepped, textFor}
 use Rattle.receiver.specs.declared.state.Cea608State.{Cea608State}
 use Rattle.receiver.specs.declared.state.LastChannel.{LastChannel}
@@ -32,12 +33,6 @@ use Rattle.receiver.specs.declared.state.LastChannel.the-variants as cha
 use Rattle.receiver.specs.declared.state.LastField.{LastField}
 use Rattle.receiver.specs.declared.state.LastPair.{LastPair}
 use Rattle.receiver.specs.declared.state.LastPair.the-variants as last
-
--- two states that no later pair tells apart
-pub record Alike (s t : Cea608State) : Type 0 where
-  pub same-channel : s .«last_channel» ≡ t .«last_channel»
-  pub same-field : s .«last_received_field» ≡ t .«last_received_field»
-  pub same-wait : (s .«last_data» ≡ t .«last_data») ⊎ (Quiet s × Quiet t)
 
 pub alike-itself : (s : Cea608State) → Alike s s
 alike-itself s = record { same-channel = refl; same-field = refl; same-wait = inl refl }
@@ -112,11 +107,18 @@ no-text (channel.Known ch) = refl
 pub padding-step : (s : Cea608State) → step s padding ≡ (answer none, state (last.Was padding) (s .«last_channel») (s .«last_received_field»))
 padding-step s = ap (afterReading s padding) padding-read ∙ rw (no-text (s .«last_channel»))
 
--- an answer in front of two lists with the same events
-events-behind : (o : Outcome (Option Cea608)) (os qs : List (Outcome (Option Cea608))) → events os ≡ events qs → events (o ∷ os) ≡ events (o ∷ qs)
-events-behind (answer none) os qs e = e
-events-behind (answer (some x)) os qs e = ap (λ (l : List Cea608). x ∷ l) e
-events-behind (refused n) os qs e = e
+-- an answer in front of two lists that say the same
+said-behind : (o : Outcome (Option Cea608)) (os qs : List (Outcome (Option Cea608))) → said os ≡ said qs → said (o ∷ os) ≡ said (o ∷ qs)
+said-behind (answer none) os qs e = e
+said-behind (answer (some x)) os qs e = ap (λ (l : List (Outcome (Option Cea608))). answer (some x) ∷ l) e
+said-behind (refused n) os qs e = ap (λ (l : List (Outcome (Option Cea608))). refused n ∷ l) e
+
+-- the events are among what was said
+events-said : (os : List (Outcome (Option Cea608))) → events (said os) ≡ events os
+events-said [] = refl
+events-said (answer none ∷ os) = events-said os
+events-said (answer (some x) ∷ os) = ap (λ (l : List Cea608). x ∷ l) (events-said os)
+events-said (refused n ∷ os) = events-said os
 
 quiet-too : (s t : Cea608State) → Alike s t → Quiet s → Quiet t
 quiet-too s t a quiet =
@@ -136,18 +138,18 @@ padded-first s t a quiet =
     rw (padding-step s)
     (record { same-channel = a .same-channel; same-field = a .same-field; same-wait = inr (refl, quiet-too s t a quiet) })
 
-padding-unheard : (s : Cea608State) (os : List (Outcome (Option Cea608))) → events (step s padding .0 ∷ os) ≡ events os
+padding-unheard : (s : Cea608State) (os : List (Outcome (Option Cea608))) → said (step s padding .0 ∷ os) ≡ said os
 padding-unheard s os = rw (padding-step s)
 
 abbrev SameHeard : Cea608State → List Pair → Cea608State → List Pair → Type 0
-SameHeard s ps t qs = (events (answers s ps) ≡ events (answers t qs)) × Alike (after s ps) (after t qs)
+SameHeard s ps t qs = (said (answers s ps) ≡ said (answers t qs)) × Alike (after s ps) (after t qs)
 
 heard-alike : (s t : Cea608State) (ps qs : List Pair) → Repadded s ps qs → Alike s t → SameHeard s ps t qs
 heard-alike s t ps qs repadded.ends a = (refl, a)
 heard-alike s t ps qs (repadded.keeps {p = p} {ps = ps′} {qs = qs′} r) a =
     let now = alike-steps s t p a in
     let later = heard-alike (step s p .1) (step t p .1) ps′ qs′ r (now .1) in (
-      events-behind (step s p .0) (answers (step s p .1) ps′) (answers (step t p .1) qs′) (later .0) ∙ ap (λ (o : Outcome (Option Cea608)). events (o ∷ answers (step t p .1) qs′)) (now .0),
+      said-behind (step s p .0) (answers (step s p .1) ps′) (answers (step t p .1) qs′) (later .0) ∙ ap (λ (o : Outcome (Option Cea608)). said (o ∷ answers (step t p .1) qs′)) (now .0),
       later .1,
     )
 heard-alike s t ps qs (repadded.puts-in {qs = qs′} quiet r) a =
@@ -157,21 +159,40 @@ heard-alike s t ps qs (repadded.takes-out {ps = ps′} quiet r) a =
     let later = heard-alike (step s padding .1) t ps′ qs r (padded-first s t a quiet) in
     (padding-unheard s (answers (step s padding .1) ps′) ∙ later .0, later .1)
 
--- the law: from any state, the same events in the same order, and the same channel and field in the end
+-- the law: from any state, the same events in the same order, the same refusals among them, the same channel and field in
+-- the end, and two states that no later pair tells apart
 pub record SameCaptions (s : Cea608State) (ps qs : List Pair) : Type 0 where
   pub same-events : events (answers s ps) ≡ events (answers s qs)
+  pub same-said : said (answers s ps) ≡ said (answers s qs)
   pub ends-in-channel : after s ps .«last_channel» ≡ after s qs .«last_channel»
   pub ends-in-field : after s ps .«last_received_field» ≡ after s qs .«last_received_field»
+  pub ends-alike : Alike (after s ps) (after s qs)
 
 pub frame-rate-law : (s : Cea608State) (ps qs : List Pair) → Repadded s ps qs → SameCaptions s ps qs
 frame-rate-law s ps qs r =
     let h = heard-alike s s ps qs r (alike-itself s) in
-    record { same-events = h .0; ends-in-channel = h .1 .same-channel; ends-in-field = h .1 .same-field }
+    record {
+      same-events = sym (events-said (answers s ps)) ∙ ap events (h .0) ∙ events-said (answers s qs);
+      same-said = h .0;
+      ends-in-channel = h .1 .same-channel;
+      ends-in-field = h .1 .same-field;
+      ends-alike = h .1;
+    }
 
--- its limit: a carriage return and its repeat scroll once; with padding between them, twice
 abbrev carriageReturn : Pair
 carriageReturn = pair 0x94 0xAD
 
+-- a doubled carriage return and text, with padding put in before, behind the two copies and behind the text
+abbrev hi : Pair
+hi = pair 0xC8 0xE9
+
+pub padded-in-three-places : Repadded fresh (carriageReturn ∷ carriageReturn ∷ hi ∷ []) (padding ∷ carriageReturn ∷ carriageReturn ∷ padding ∷ hi ∷ padding ∷ [])
+unfolding readPair ones onesIn
+padded-in-three-places =
+    repadded.puts-in refl
+    (repadded.keeps (repadded.keeps (repadded.puts-in refl (repadded.keeps (repadded.puts-in refl repadded.ends)))))
+
+-- its limit: a carriage return and its repeat scroll once; with padding between them, twice
 pub doubled-scrolls-once : events (answers fresh (carriageReturn ∷ carriageReturn ∷ [])) ≡ event.CarriageReturn channelOne ∷ []
 unfolding readPair ones onesIn
 doubled-scrolls-once = refl

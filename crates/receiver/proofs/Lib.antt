@@ -3,3 +3,4 @@ pub mod Copies
 pub mod FrameRate
 pub mod OneAnswer
 pub mod Step
+pub mod TriedByHand

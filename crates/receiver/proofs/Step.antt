@@ -4,7 +4,7 @@
 use mathlib.Core.Bool.{Bool, true, false, cond}
 use mathlib.Core.List.{[], _∷_, map}
 use mathlib.Core.Option.{Option, none, some}
-use mathlib.Core.Path.{_≡_, refl, ap, _∙_}
+use mathlib.Core.Path.{_≡_, refl, ap, sym, _∙_}
 use Prim.Native.Nat.{ℕ}
 use Rattle.code.proofs.OneAnswer.{clash}
 use Rattle.code.proofs.Written.{read-as-text, single-is-no-command}
@@ -21,8 +21,10 @@ use Rattle.code.specs.declared.control.ControlCode.{ControlCode}
 use Rattle.code.specs.declared.pair.Pair.{Pair}
 use Rattle.code.specs.declared.symbol.Symbol.{Symbol}
 use Rattle.receiver.specs.Heard.{commandEvent, controlEvent, eventOf}
-use Rattle.receiver.specs.Receiver.{acts, afterReading, heardCodes, heardCommand, heardText, isLast, step, Stepped}
+use Rattle.receiver.specs.Reading.{afterReadingOnce, once}
+use Rattle.receiver.specs.Receiver.{acts, afterReading, heardCodes, heardCommand, heardText, isLast, state, step, Stepped}
 use Rattle.receiver.specs.declared.state.Cea608State.{Cea608State}
+use Rattle.receiver.specs.declared.state.LastPair.the-variants as last
 
 -- a pair that is read as a command
 abbrev pub IsCommand : Pair → ControlCode → Type 0
@@ -32,9 +34,21 @@ IsCommand p c = (y : Code) × (readPair (p .0) (p .1) ≡ answer (code.Control c
 pub step-command : (s : Cea608State) (p : Pair) (c : ControlCode) → IsCommand p c → step s p ≡ heardCommand s p c
 step-command s p c h = ap (afterReading s p) (h .1)
 
--- one that is not the last pair acts, and one that is does not
+-- one that is not the last pair acts
 pub command-acts : (s : Cea608State) (p : Pair) (c : ControlCode) → IsCommand p c → isLast p (s .«last_data») ≡ false → step s p ≡ acts s p c
 command-acts s p c h other = step-command s p c h ∙ rw other
+
+-- and one that is gives no event, and changes nothing but the last pair, which is absent then
+pub repeat-is-skipped : (s : Cea608State) (p : Pair) (c : ControlCode) → IsCommand p c → isLast p (s .«last_data») ≡ true → step s p ≡ (answer none, state last.Absent (s .«last_channel») (s .«last_received_field»))
+repeat-is-skipped s p c h same = step-command s p c h ∙ rw same
+
+-- where it is not the last pair, reading once is reading
+pub once-where-no-repeat : (s : Cea608State) (p : Pair) (c : ControlCode) → IsCommand p c → isLast p (s .«last_data») ≡ false → once s p ≡ step s p
+once-where-no-repeat s p c h other = ap (afterReadingOnce s p) (h .1) ∙ sym (command-acts s p c h other)
+
+-- a pair that cannot be read is refused by the reading's number
+pub hit-is-refused : (s : Cea608State) (p : Pair) (n : ℕ) → readPair (p .0) (p .1) ≡ refused n → step s p ≡ (refused n, s)
+hit-is-refused s p n h = ap (afterReading s p) h
 
 module _ (s : Cea608State) (p : Pair) (n : ℕ) where
   refused-command : (t : Bool) (x y : Stepped) → ((x .0 ≡ refused n) → ⊥) → ((y .0 ≡ refused n) → ⊥) → cond t x y .0 ≡ refused n → ⊥

@@ -1,7 +1,9 @@
--- Two streams of pairs that differ in padding alone, put in or taken out where no repeat is awaited: where the pair read
--- last is absent or no command.
+-- Two streams of pairs that differ in padding alone, put in or taken out where no repeat is awaited: where the last pair
+-- that the receiver holds is absent or no command. A refused pair is not held: behind a command and a hit, the command's
+-- repeat is still awaited.
 use mathlib.Core.Bool.{Bool, false}
 use mathlib.Core.List.{List, [], _∷_}
+use mathlib.Core.Logic.{_⊎_}
 use mathlib.Core.Path.{_≡_}
 use Rattle.code.specs.Parity.{stripped}
 use Rattle.code.specs.Read.{isCommand}
@@ -23,6 +25,12 @@ awaits (last.Was p) = isCommand (stripped (p .0))
 -- from this state no repeat is awaited
 abbrev pub Quiet : Cea608State → Type 0
 Quiet s = awaits (s .«last_data») ≡ false
+
+-- two states that no later pair tells apart
+pub record Alike (s t : Cea608State) : Type 0 where
+  pub same-channel : s .«last_channel» ≡ t .«last_channel»
+  pub same-field : s .«last_received_field» ≡ t .«last_received_field»
+  pub same-wait : (s .«last_data» ≡ t .«last_data») ⊎ (Quiet s × Quiet t)
 
 -- read from this state, the second stream is the first with padding put in or taken out at any places where it is quiet
 pub data Repadded : Cea608State → List Pair → List Pair → Type 0 where

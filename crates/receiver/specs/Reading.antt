@@ -1,5 +1,5 @@
--- Reading a list of pairs, from 01: the fold of the receiver's step. Beside it the same with no test for repeats, which
--- reads each pair once.
+-- Reading a list of pairs: the fold of the receiver's step. Beside it the same with no test for repeats, `readOnce`: every
+-- command acts.
 use Prim.Native.Nat.{ℕ}
 use mathlib.Core.List.{List, [], _∷_}
 use mathlib.Core.Option.{Option, none, some}
@@ -28,6 +28,13 @@ events (answer none ∷ os) = events os
 events (answer (some e) ∷ os) = e ∷ events os
 events (refused n ∷ os) = events os
 
+-- what was said, events and refusals, in order
+abbrev pub said : List (Outcome (Option Cea608)) → List (Outcome (Option Cea608))
+said [] = []
+said (answer none ∷ os) = said os
+said (answer (some e) ∷ os) = answer (some e) ∷ said os
+said (refused n ∷ os) = refused n ∷ said os
+
 -- each pair read once: every command acts
 abbrev pub onceCodes : Cea608State → Pair → Code → Code → Stepped
 onceCodes s p (code.Control c) y = acts s p c
@@ -42,9 +49,9 @@ afterReadingOnce s p (refused n) = (refused n, s)
 abbrev pub once : Cea608State → Pair → Stepped
 once s p = afterReadingOnce s p (readPair (p .0) (p .1))
 
-abbrev pub answersOnce : Cea608State → List Pair → List (Outcome (Option Cea608))
-answersOnce s [] = []
-answersOnce s (p ∷ ps) = once s p .0 ∷ answersOnce (once s p .1) ps
+abbrev pub readOnce : Cea608State → List Pair → List (Outcome (Option Cea608))
+readOnce s [] = []
+readOnce s (p ∷ ps) = once s p .0 ∷ readOnce (once s p .1) ps
 
 abbrev pub afterOnce : Cea608State → List Pair → Cea608State
 afterOnce s [] = s

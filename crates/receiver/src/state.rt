@@ -13,7 +13,7 @@ use code::Field;
 use code::FromData;
 use code::Pair;
 
-// The last pair, while it may still be repeated.
+// The last pair that was not refused, text or command, unless it was a repeat.
 pub enum LastPair {
     Absent,
     Was(Pair),

@@ -4,6 +4,7 @@ mod event_bytes;
 mod event_query;
 mod from_bytes;
 mod query;
+mod queue_query;
 mod receiver_query;
 mod to_bytes;
 

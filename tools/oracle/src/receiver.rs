@@ -51,8 +51,10 @@ impl<'a> Receiver<'a> {
 pub const PADDING: [u8; 2] = [0x80, 0x80];
 
 const ROLL_UP_2: [u8; 2] = [0x94, 0x25];
+const HI: [u8; 2] = [0xC8, 0xE9];
 
-/// Each pair of odd parity twice, read by a fresh receiver and by one that has read a command.
+/// Each pair of odd parity twice, read by a fresh receiver and by one that has read a command; and once by a fresh one,
+/// with text behind it, which tells the channel.
 pub fn after_every_pair(to: &mut Transcript) {
     let bytes = good_bytes();
     let mut receiver = Receiver::fresh(to);
@@ -63,6 +65,8 @@ pub fn after_every_pair(to: &mut Transcript) {
             receiver.decode_all(&[pair, pair]);
             receiver.reset();
             receiver.decode_all(&[ROLL_UP_2, pair, pair]);
+            receiver.reset();
+            receiver.decode_all(&[pair, HI]);
         }
     }
 }

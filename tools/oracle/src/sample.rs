@@ -10,6 +10,7 @@ use crate::event::{
 use crate::names::{COLOURS, COMMANDS, LETTERS, MID_ROW_COLOURS, MODES, STYLES, SYMBOLS, TABS};
 use crate::random::{Random, SEED};
 use crate::receiver::{sequence, Receiver, PADDING};
+use crate::queue_sets;
 use crate::transcript::Transcript;
 use cea608_types::tables::{Channel, Code, Control, Field};
 use cea608_types::Cea608;
@@ -38,6 +39,7 @@ pub fn sample(to: &mut Transcript) {
     texts(to);
     modes_and_services(to);
     pairs_received(to, &mut random);
+    queue_sets::sample(to);
 }
 
 /// Adds parity to two stripped bytes and asks for the pair.

@@ -1,0 +1,60 @@
+-- What every answer of the ring is known by, whatever state was handed in: a popped pair has odd parity and is a command
+-- where its first stripped byte says so, a count is at most 65, and a pop of a queue that is not empty makes progress.
+-- Assumes nothing.
+use mathlib.Core.Bool.{Bool, true, false}
+use mathlib.Core.Path.{_≡_, refl, ap, sym, subst, _∙_}
+use Prim.Native.Nat.{ℕ, _≤_, _<_}
+use native.Mathlib.Omega.{arith}
+use Rattle.code.proofs.Written.{SentPair}
+use Rattle.code.specs.Outcome.{Outcome, answer, refused}
+use Rattle.code.specs.Parity.{stripped}
+use Rattle.code.specs.Read.{isCommand, readPair}
+use Rattle.code.specs.declared.pair.Pair.{Pair}
+use Rattle.queue.proofs.Fit.{at-most-65}
+use Rattle.queue.proofs.Pairs.{popped-command, popped-is-sent, readsCommand}
+use Rattle.queue.proofs.Progress.{pop-makes-progress, work}
+use Rattle.queue.proofs.Refines.{Good, good-fits, ill-formed-count, ill-formed-pop, pop-refines}
+use Rattle.queue.specs.Queue.{Queued, count, pop}
+use Rattle.queue.specs.Ring.{countRing, popRing, view, wellFormed}
+use Rattle.queue.specs.declared.ring.Queue.{Queue}
+
+-- an answer that is no refusal came from a well-formed state, and is the definition's
+pop-answer : (q : Queue) (p : Pair) (t : Bool) → wellFormed q ≡ t → popRing q .0 ≡ answer p → (wellFormed q ≡ true) × (p ≡ pop (view q) .pair)
+unfolding popRing
+pop-answer q p true e answered =
+    let same : _≡_ {A = Outcome Pair} (answer (pop (view q) .pair)) (answer p) = rw e at answered in
+    (e, cc)
+pop-answer q p false e answered =
+    let clash : _≡_ {A = Outcome Pair} (refused 12) (answer p) = sym (ap (λ (r : Outcome Pair × Queue). r .0) (ill-formed-pop q e)) ∙ answered in
+    let z : _≡_ {A = ℕ} 0 1 = cc in
+    absurd (omega arith)
+
+pub sent-pair-is-odd : (q : Queue) (p : Pair) → popRing q .0 ≡ answer p → SentPair p
+sent-pair-is-odd q p answered =
+    let known = pop-answer q p (wellFormed q) refl answered in
+    subst SentPair (sym (known .1)) (popped-is-sent (view q) (good-fits q (known .0)))
+
+pub sent-pair-is-command : (q : Queue) (p : Pair) → popRing q .0 ≡ answer p → readsCommand (readPair (p .0) (p .1)) ≡ isCommand (stripped (p .0))
+sent-pair-is-command q p answered =
+    let known = pop-answer q p (wellFormed q) refl answered in
+    subst (λ (x : Pair). readsCommand (readPair (x .0) (x .1)) ≡ isCommand (stripped (x .0))) (sym (known .1))
+    (popped-command (view q) (good-fits q (known .0)))
+
+count-answer : (q : Queue) (n : ℕ) (t : Bool) → wellFormed q ≡ t → countRing q .0 ≡ answer n → n ≤ 65
+unfolding countRing
+count-answer q n true e answered =
+    let same : _≡_ {A = Outcome ℕ} (answer (count (view q))) (answer n) = rw e at answered in
+    let here : count (view q) ≡ n = cc in
+    omega (arith, at-most-65 (view q) (good-fits q e))
+count-answer q n false e answered =
+    let clash : _≡_ {A = Outcome ℕ} (refused 12) (answer n) = sym (ap (λ (r : Outcome ℕ × Queue). r .0) (ill-formed-count q e)) ∙ answered in
+    let z : _≡_ {A = ℕ} 0 1 = cc in
+    absurd (omega arith)
+
+pub n-codes-at-most-65 : (q : Queue) (n : ℕ) → countRing q .0 ≡ answer n → n ≤ 65
+n-codes-at-most-65 q n answered = count-answer q n (wellFormed q) refl answered
+
+pub ring-makes-progress : (q : Queue) → Good q → 0 < count (view q) → work (view (popRing q .1)) < work (view q)
+ring-makes-progress q g more =
+    let next = ap (λ (r : Outcome Pair × Queued). work (r .1)) (pop-refines q g) in
+    omega (arith, next, pop-makes-progress (view q) more)

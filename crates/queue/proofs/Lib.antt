@@ -1,0 +1,12 @@
+pub mod Answers
+pub mod FirstInFirstOut
+pub mod Fit
+pub mod OneAnswer
+pub mod Order
+pub mod Pairs
+pub mod Places
+pub mod Progress
+pub mod Refines
+pub mod TriedByHand
+pub mod Turns
+pub mod WellFormed

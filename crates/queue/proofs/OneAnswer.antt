@@ -1,0 +1,82 @@
+-- No second answer can meet a promise: the outcome of an answer and the record beside it tell the whole of what a call
+-- returns for each kind of answer, since the answer
+-- is found again from its outcome.
+-- Assumes nothing.
+use mathlib.Core.Bool.{cond}
+use mathlib.Core.Path.{_≡_, refl, ap, ap₂, sym, _∙_}
+use Prim.Native.Nat.{ℕ}
+use lib.Dec.{eqb}
+use Rattle.code.proofs.OneAnswer.{Told}
+use Rattle.code.specs.Outcome.{Outcome, answer, refused}
+use Rattle.code.specs.declared.pair.Pair.{Pair}
+use Rattle.queue.specs.Ring.{countAnswerOutcome, countOutcome, popAnswerOutcome, popOutcome, pushAnswerOutcome, pushOutcome}
+use Rattle.queue.specs.declared.count.CountAnswer.{CountAnswer}
+use Rattle.queue.specs.declared.count.CountAnswer.the-variants as count-answer
+use Rattle.queue.specs.declared.count.Counted.{Counted}
+use Rattle.queue.specs.declared.pop.PopAnswer.{PopAnswer}
+use Rattle.queue.specs.declared.pop.PopAnswer.the-variants as pop-answer
+use Rattle.queue.specs.declared.pop.Popped.{Popped}
+use Rattle.queue.specs.declared.push.PushAnswer.{PushAnswer}
+use Rattle.queue.specs.declared.push.PushAnswer.the-variants as push-answer
+use Rattle.queue.specs.declared.push.Pushed.{Pushed}
+use Rattle.queue.specs.declared.ring.Queue.{Queue}
+
+-- what stands beside an outcome
+abbrev beside : {A : Type 0} → A × Queue → Queue
+beside r = r .1
+
+-- a push's answer, found again from its outcome
+abbrev pushAnswerOf : Outcome Unit → PushAnswer
+pushAnswerOf (answer u) = push-answer.Accepted
+pushAnswerOf (refused n) =
+    cond (eqb n 2) push-answer.UnknownByte
+    (cond (eqb n 3) push-answer.NoSuchRow (cond (eqb n 7) push-answer.Full push-answer.IllFormed))
+
+push-answer-found : (a : PushAnswer) → pushAnswerOf (pushAnswerOutcome a) ≡ a
+push-answer-found push-answer.Accepted = refl
+push-answer-found push-answer.UnknownByte = refl
+push-answer-found push-answer.NoSuchRow = refl
+push-answer-found push-answer.Full = refl
+push-answer-found push-answer.IllFormed = refl
+
+pub push-answer-told : Told pushAnswerOutcome
+push-answer-told a b e = sym (push-answer-found a) ∙ ap pushAnswerOf e ∙ push-answer-found b
+
+pub push-told : Told pushOutcome
+push-told r s e =
+    ap₂ {C = Pushed} (λ (a : PushAnswer) (q : Queue). record { answer = a; queue = q })
+    (push-answer-told (r .answer) (s .answer) (ap (λ (w : Outcome Unit × Queue). w .0) e)) (ap beside e)
+
+-- a pop's; the pair of a refusal is never looked at
+abbrev popAnswerOf : Outcome Pair → PopAnswer
+popAnswerOf (answer p) = pop-answer.Sent p
+popAnswerOf (refused n) = pop-answer.IllFormed
+
+pop-answer-found : (a : PopAnswer) → popAnswerOf (popAnswerOutcome a) ≡ a
+pop-answer-found (pop-answer.Sent p) = refl
+pop-answer-found pop-answer.IllFormed = refl
+
+pub pop-answer-told : Told popAnswerOutcome
+pop-answer-told a b e = sym (pop-answer-found a) ∙ ap popAnswerOf e ∙ pop-answer-found b
+
+pub pop-told : Told popOutcome
+pop-told r s e =
+    ap₂ {C = Popped} (λ (a : PopAnswer) (q : Queue). record { answer = a; queue = q })
+    (pop-answer-told (r .answer) (s .answer) (ap (λ (w : Outcome Pair × Queue). w .0) e)) (ap beside e)
+
+-- a count's
+abbrev countAnswerOf : Outcome ℕ → CountAnswer
+countAnswerOf (answer n) = count-answer.Codes n
+countAnswerOf (refused n) = count-answer.IllFormed
+
+count-answer-found : (a : CountAnswer) → countAnswerOf (countAnswerOutcome a) ≡ a
+count-answer-found (count-answer.Codes n) = refl
+count-answer-found count-answer.IllFormed = refl
+
+pub count-answer-told : Told countAnswerOutcome
+count-answer-told a b e = sym (count-answer-found a) ∙ ap countAnswerOf e ∙ count-answer-found b
+
+pub count-told : Told countOutcome
+count-told r s e =
+    ap₂ {C = Counted} (λ (a : CountAnswer) (q : Queue). record { answer = a; queue = q })
+    (count-answer-told (r .answer) (s .answer) (ap (λ (w : Outcome ℕ × Queue). w .0) e)) (ap beside e)

@@ -1,0 +1,198 @@
+-- The ring does what the list does: of a well-formed ring each call's answer is the definition's at the ring's list, and
+-- the list of the ring that it leaves is the definition's next. An ill-formed state is refused and comes back as it was.
+-- Assumes nothing.
+use mathlib.Core.Bool.{Bool, true, false, cond}
+use mathlib.Core.List.{List, [], _∷_, _++_}
+use mathlib.Core.Option.{Option, none, some}
+use mathlib.Core.Path.{_≡_, refl, ap, ap₂, sym, subst, _∙_}
+use Prim.Native.Nat.{ℕ, suc, _+_, _-_, _≤_, _<_}
+use native.Mathlib.Omega.{arith}
+use lib.ListN.{drop, length, length-set}
+use Rattle.code.specs.Code.{needsBackspace}
+use Rattle.code.specs.Outcome.{Outcome, answer, refused}
+use Rattle.code.specs.declared.code.Code.{Code}
+use Rattle.code.specs.declared.pair.Pair.{Pair}
+use Rattle.queue.proofs.Fit.{Fit, pop-fits, push-fits}
+use Rattle.queue.proofs.Places.{freed-in-front, how-many, over-the-seam, stored-behind}
+use Rattle.queue.proofs.WellFormed.{formed, stored-has-room, well-formed}
+use Rattle.queue.specs.Queue.{Pop, Queued, admit, count, entered, isSingle, pop, popCommand, popHeld, popSingle, popTwo, popWaiting, push, queued}
+use Rattle.queue.specs.Ring.{countRing, freeing, freshRing, heldAs, heldIn, popRing, pushRing, stored, turn, view, waitingIn, wellFormed}
+use Rattle.queue.specs.declared.pop.Turn.{Turn}
+use Rattle.queue.specs.declared.ring.Queue.{Queue}
+
+-- a well-formed state, of the 64 places that every value of the type has
+pub record Good (q : Queue) : Type 0 where
+  pub formed : wellFormed q ≡ true
+  pub places : length (q .slots) ≡ 64
+
+-- an answer, and the list of the state beside it
+abbrev pub seen : {A : Type 0} → Outcome A × Queue → Outcome A × Queued
+seen r = (r .0, view (r .1))
+
+-- the list of a well-formed ring, and back
+pub good-fits : (q : Queue) → wellFormed q ≡ true → Fit (view q)
+good-fits q e =
+    let f = formed q e in
+    record { size = omega (arith, f .waiting, how-many (q .slots) (q .start) (q .waiting)); held = f .held; codes = f .codes }
+
+fits-formed : (q : Queue) → q .start < 64 → Fit (view q) → wellFormed q ≡ true
+fits-formed q less f = well-formed q (record {
+  start = less;
+  waiting = omega (arith, f .size, how-many (q .slots) (q .start) (q .waiting));
+  held = f .held;
+  codes = f .codes;
+})
+
+pub fresh-good : Good freshRing
+unfolding wellFormed
+fresh-good = record { formed = refl; places = refl }
+
+-- a push
+view-of-stored : (q : Queue) (c : Code) → length (q .slots) ≡ 64 → q .waiting < 64 → view (stored q c) ≡ queued (waitingIn q ++ (c ∷ [])) (heldIn (q .held))
+view-of-stored q c size less =
+    ap (λ (l : List Code). queued l (heldIn (q .held))) (stored-behind (q .slots) (q .start) (q .waiting) c size less)
+
+entered-refines : (o : Outcome Bool) (q : Queue) (c : Code) → admit c (q .waiting) ≡ o → length (q .slots) ≡ 64 → seen (entered o (stored q c) q) ≡ entered o (queued (waitingIn q ++ (c ∷ [])) (heldIn (q .held))) (view q)
+entered-refines (answer true) q c e size = rw (view-of-stored q c size (stored-has-room c (q .waiting) e)) refl
+entered-refines (answer false) q c e size = refl
+entered-refines (refused n) q c e size = refl
+
+pub push-refines : (q : Queue) (c : Code) → Good q → seen (pushRing q c) ≡ push c (view q)
+unfolding pushRing
+push-refines q c g =
+    ap (λ (t : Bool). seen (cond t (entered (admit c (q .waiting)) (stored q c) q) (refused 12, q))) (g .formed)
+    ∙ entered-refines (admit c (q .waiting)) q c refl (g .places)
+    ∙ ap (λ (n : ℕ). entered (admit c n) (queued (waitingIn q ++ (c ∷ [])) (heldIn (q .held))) (view q)) (sym (how-many (q .slots) (q .start) (q .waiting)))
+
+entered-start : (o : Outcome Bool) (q : Queue) (c : Code) → entered o (stored q c) q .1 .start ≡ q .start
+entered-start (answer true) q c = refl
+entered-start (answer false) q c = refl
+entered-start (refused n) q c = refl
+
+entered-places : (o : Outcome Bool) (q : Queue) (c : Code) → length (entered o (stored q c) q .1 .slots) ≡ length (q .slots)
+entered-places (answer true) q c = length-set (q .slots) _ _
+entered-places (answer false) q c = refl
+entered-places (refused n) q c = refl
+
+next-good : (q : Queue) → q .start < 64 → length (q .slots) ≡ 64 → Fit (view q) → Good q
+next-good q less size f = record { formed = fits-formed q less f; places = size }
+
+pub push-good : (q : Queue) (c : Code) → Good q → Good (pushRing q c .1)
+unfolding pushRing
+push-good q c g =
+    let done = entered (admit c (q .waiting)) (stored q c) q in
+    let here : pushRing q c .1 ≡ done .1 = ap (λ (t : Bool). cond t done (refused 12, q) .1) (g .formed) in
+    let fits = subst (λ (r : Outcome Unit × Queued). Fit (r .1)) (sym (push-refines q c g)) (push-fits c (view q) (good-fits q (g .formed))) in
+    next-good (pushRing q c .1)
+    (omega (arith, ap (λ (r : Queue). r .start) here, entered-start (admit c (q .waiting)) q c, formed q (g .formed) .start))
+    (ap (λ (r : Queue). length (r .slots)) here ∙ entered-places (admit c (q .waiting)) q c ∙ g .places)
+    fits
+
+-- a pop takes codes off the front of those that wait
+abbrev Drops : List Code → Pop → Type 0
+Drops l p = drop (length l - length (p .next .waiting)) l ≡ p .next .waiting
+
+drops-none : (l : List Code) → drop (length l - length l) l ≡ l
+drops-none l =
+    let none-gone : length l - length l ≡ 0 = omega arith in
+    ap (λ (n : ℕ). drop n l) none-gone
+
+drops-one : (x : Code) (l : List Code) → drop (suc (length l) - length l) (x ∷ l) ≡ l
+drops-one x l =
+    let one-gone : suc (length l) - length l ≡ 1 = omega arith in
+    ap (λ (n : ℕ). drop n (x ∷ l)) one-gone
+
+drops-two : (x y : Code) (l : List Code) → drop (suc (suc (length l)) - length l) (x ∷ y ∷ l) ≡ l
+drops-two x y l =
+    let two-gone : suc (suc (length l)) - length l ≡ 2 = omega arith in
+    ap (λ (n : ℕ). drop n (x ∷ y ∷ l)) two-gone
+
+command-drops : (x : Code) (rest : List Code) (t : Bool) → needsBackspace x ≡ t → Drops (x ∷ rest) (popCommand x rest)
+command-drops x rest true e = rw e (drops-one x rest)
+command-drops x rest false e = rw e (drops-one x rest)
+
+two-drop : (x y : Code) (rest : List Code) (t : Bool) → isSingle y ≡ t → Drops (x ∷ y ∷ rest) (popTwo x y rest)
+two-drop x y rest true e = rw e (drops-two x y rest)
+two-drop x y rest false e = rw e (drops-two x y rest)
+
+single-drops : (x : Code) (rest : List Code) → Drops (x ∷ rest) (popSingle x rest)
+single-drops x [] = drops-one x []
+single-drops x (y ∷ rest) = two-drop x y rest (isSingle y) refl
+
+waiting-drops : (x : Code) (rest : List Code) (t : Bool) → isSingle x ≡ t → Drops (x ∷ rest) (popWaiting (x ∷ rest))
+waiting-drops x rest true e = rw e (single-drops x rest)
+waiting-drops x rest false e = rw e (command-drops x rest (needsBackspace x) refl)
+
+held-drops : (h : Option Code) (l : List Code) → Drops l (popHeld h l)
+held-drops (some c) l = drops-none l
+held-drops none [] = drops-none []
+held-drops none (x ∷ rest) = waiting-drops x rest (isSingle x) refl
+
+pub pop-drops : (v : Queued) → Drops (v .waiting) (pop v)
+unfolding pop
+pop-drops v = held-drops (v .held) (v .waiting)
+
+held-back : (h : Option Code) → heldIn (heldAs h) ≡ h
+held-back none = refl
+held-back (some c) = refl
+
+view-of-freed : (q : Queue) (t : Turn) → t .freed ≤ q .waiting → view (freeing q t) ≡ queued (drop (t .freed) (waitingIn q)) (heldIn (t .held))
+view-of-freed q t h =
+    ap (λ (l : List Code). queued l (heldIn (t .held)))
+    (over-the-seam (q .slots) (q .start + t .freed) (q .waiting - t .freed)
+    ∙ freed-in-front (q .slots) (q .start) (q .waiting) (t .freed) h)
+
+view-of-turn : (q : Queue) → view (freeing q (turn (view q))) ≡ pop (view q) .next
+view-of-turn q =
+    view-of-freed q (turn (view q)) (omega (arith, how-many (q .slots) (q .start) (q .waiting)))
+    ∙ ap₂ queued (pop-drops (view q)) (held-back (pop (view q) .next .held))
+
+pub pop-refines : (q : Queue) → Good q → seen (popRing q) ≡ (answer (pop (view q) .pair), pop (view q) .next)
+unfolding popRing
+pop-refines q g =
+    ap (λ (t : Bool). seen (cond t (answer (turn (view q) .pair), freeing q (turn (view q))) (refused 12, q))) (g .formed)
+    ∙ ap {B = Outcome Pair × Queued} (λ (v : Queued). (answer (pop (view q) .pair), v)) (view-of-turn q)
+
+pub pop-good : (q : Queue) → Good q → Good (popRing q .1)
+unfolding popRing
+pop-good q g =
+    let next = freeing q (turn (view q)) in
+    let done : Outcome Pair × Queue = (answer (turn (view q) .pair), next) in
+    let here : popRing q .1 ≡ next = ap (λ (t : Bool). cond t done (refused 12, q) .1) (g .formed) in
+    let fits = subst (λ (r : Outcome Pair × Queued). Fit (r .1)) (sym (pop-refines q g)) (pop-fits (view q) (good-fits q (g .formed))) in
+    next-good (popRing q .1)
+    (omega (arith, ap (λ (r : Queue). r .start) here))
+    (ap (λ (r : Queue). length (r .slots)) here ∙ g .places)
+    fits
+
+-- a count changes nothing
+pub count-refines : (q : Queue) → Good q → countRing q ≡ (answer (count (view q)), q)
+unfolding countRing
+count-refines q g = rw (g .formed) refl
+
+-- 12: the state comes back bit for bit
+pub ill-formed-push : (q : Queue) (c : Code) → wellFormed q ≡ false → pushRing q c ≡ (refused 12, q)
+unfolding pushRing
+ill-formed-push q c e = rw e refl
+
+pub ill-formed-pop : (q : Queue) → wellFormed q ≡ false → popRing q ≡ (refused 12, q)
+unfolding popRing
+ill-formed-pop q e = rw e refl
+
+pub ill-formed-count : (q : Queue) → wellFormed q ≡ false → countRing q ≡ (refused 12, q)
+unfolding countRing
+ill-formed-count q e = rw e refl
+
+-- a push that is refused, by any number, hands the very same record back
+entered-same : (o : Outcome Bool) (more same : Queue) (n : ℕ) → entered o more same .0 ≡ refused n → entered o more same .1 ≡ same
+entered-same (answer true) more same n e = let z : _≡_ {A = ℕ} 0 1 = cc in absurd (omega arith)
+entered-same (answer false) more same n e = refl
+entered-same (refused k) more same n e = refl
+
+tested-same : (t : Bool) (o : Outcome Bool) (more same : Queue) (n : ℕ) → cond t (entered o more same) (refused 12, same) .0 ≡ refused n → cond t (entered o more same) (refused 12, same) .1 ≡ same
+tested-same true o more same n e = entered-same o more same n e
+tested-same false o more same n e = refl
+
+pub a-refused-push-changes-nothing : (q : Queue) (c : Code) (n : ℕ) → pushRing q c .0 ≡ refused n → pushRing q c .1 ≡ q
+unfolding pushRing
+a-refused-push-changes-nothing q c n e = tested-same (wellFormed q) (admit c (q .waiting)) (stored q c) q n e

@@ -1,0 +1,3 @@
+pub mod Queue
+pub mod Ring
+pub mod Calls

@@ -1,0 +1,135 @@
+-- The queue as a list: the codes that wait, first in first out, and at most one that is held. Written from 01's section
+-- "Queue and sender" and its refusals 2, 3 and 7; 47 CFR 79.101 knows no queue.
+use Prim.Native.Nat.{ℕ, _+_}
+use mathlib.Core.Bool.{Bool, true, false, cond, _&&_, not}
+use mathlib.Core.List.{List, [], _∷_, _++_}
+use mathlib.Core.Option.{Option, none, some}
+use lib.Dec.{eqb, leb}
+use lib.ListN.{length}
+use Rattle.code.specs.Code.{byteLen, needsBackspace}
+use Rattle.code.specs.Outcome.{Outcome, answer, refused}
+use Rattle.code.specs.Write.{inDomain, pair, writeCode}
+use Rattle.code.specs.declared.code.Code.{Code}
+use Rattle.code.specs.declared.code.Code.the-variants as code
+use Rattle.code.specs.declared.pair.Pair.{Pair}
+
+pub record Queued : Type 0 where
+  pub waiting : List Code
+  pub held : Option Code
+
+abbrev pub queued : List Code → Option Code → Queued
+queued waiting held = record { waiting = waiting; held = held }
+
+-- nothing waits and nothing is held
+abbrev pub empty : Queued
+empty = queued [] none
+
+-- the held code, if there is one
+abbrev pub heldCodes : Option Code → List Code
+heldCodes none = []
+heldCodes (some c) = c ∷ []
+
+-- what is inside, in the order in which it goes out: the held code, then those waiting
+abbrev pub inside : Queued → List Code
+inside q = heldCodes (q .held) ++ q .waiting
+
+-- `n_codes` is waiting plus held
+abbrev pub count : Queued → ℕ
+count q = length (q .waiting) + length (heldCodes (q .held))
+
+abbrev pub isNul : Code → Bool
+isNul code.Nul = true
+isNul (code.Control c) = false
+isNul (code.Letter l) = false
+isNul (code.Unknown b) = false
+
+abbrev pub isAnswer : Outcome Unit → Bool
+isAnswer (answer u) = true
+isAnswer (refused n) = false
+
+-- a code in the domain of 2 and 3
+abbrev pub isInside : Code → Bool
+isInside c = isAnswer (inDomain c)
+
+-- a code may wait if it is in the domain and not NUL, and be held if it is a two-byte code in the domain
+abbrev pub mayWait : Code → Bool
+mayWait c = not (isNul c) && isInside c
+
+abbrev pub mayBeHeld : Code → Bool
+mayBeHeld c = eqb (byteLen c) 2 && isInside c
+
+-- A push. NUL is accepted and not stored; then 2 or 3; then 7: 64 codes are waiting. A held code is not counted.
+abbrev pub isFull : ℕ → Bool
+isFull n = leb 64 n
+
+abbrev pub ifRoom : Bool → Outcome Unit → Outcome Bool
+ifRoom full (answer u) = cond full (refused 7) (answer true)
+ifRoom full (refused k) = refused k
+
+abbrev pub admitBy : Bool → Outcome Unit → Bool → Outcome Bool
+admitBy nul domain full = cond nul (answer false) (ifRoom full domain)
+
+-- whether a code that is accepted is stored, with so many waiting
+unfoldable pub admit : Code → ℕ → Outcome Bool
+admit c n = admitBy (isNul c) (inDomain c) (isFull n)
+
+-- what a push gives, and what it leaves: more where the code is stored, else the same
+abbrev pub entered : {A : Type 0} → Outcome Bool → A → A → Outcome Unit × A
+entered (answer true) more same = (answer tt, more)
+entered (answer false) more same = (answer tt, same)
+entered (refused n) more same = (refused n, same)
+
+abbrev pub push : Code → Queued → Outcome Unit × Queued
+push c q = entered (admit c (length (q .waiting))) (queued (q .waiting ++ (c ∷ [])) (q .held)) q
+
+-- A pop: the pair, the codes that it took, and what is left.
+pub record Pop : Type 0 where
+  pub pair : Pair
+  pub took : List Code
+  pub next : Queued
+
+abbrev popped : Pair → List Code → List Code → Option Code → Pop
+popped p took waiting held = record { pair = p; took = took; next = queued waiting held }
+
+-- the pair that a code is written as
+abbrev pub sent : Outcome (Pair × ℕ) → Pair
+sent (answer x) = x .0
+sent (refused n) = pair 0x80 0x80
+
+unfoldable pub pairOf : Code → Pair
+pairOf c = sent (writeCode c)
+
+abbrev pub byteOf : Code → ℕ
+byteOf c = pairOf c .0
+
+abbrev pub isSingle : Code → Bool
+isSingle c = eqb (byteLen c) 1
+
+-- two single codes are one pair; before a command a single code goes with 0x80, or with 0x20 where the command needs a
+-- backspace, and the command is then held; a last single code goes with 0x80
+abbrev pub popTwo : Code → Code → List Code → Pop
+popTwo x y rest =
+    cond (isSingle y) (popped (pair (byteOf x) (byteOf y)) (x ∷ y ∷ []) rest none)
+    (popped (pair (byteOf x) (cond (needsBackspace y) 0x20 0x80)) (x ∷ []) rest (some y))
+
+abbrev pub popSingle : Code → List Code → Pop
+popSingle x [] = popped (pair (byteOf x) 0x80) (x ∷ []) [] none
+popSingle x (y ∷ rest) = popTwo x y rest
+
+-- with no single code before it, a command that needs a backspace is held and 20 80 goes out; any other goes out
+abbrev pub popCommand : Code → List Code → Pop
+popCommand x rest =
+    cond (needsBackspace x) (popped (pair 0x20 0x80) [] rest (some x)) (popped (pairOf x) (x ∷ []) rest none)
+
+-- empty gives 80 80
+abbrev pub popWaiting : List Code → Pop
+popWaiting [] = popped (pair 0x80 0x80) [] [] none
+popWaiting (x ∷ rest) = cond (isSingle x) (popSingle x rest) (popCommand x rest)
+
+-- first of all the held code
+abbrev pub popHeld : Option Code → List Code → Pop
+popHeld (some c) waiting = popped (pairOf c) (c ∷ []) waiting none
+popHeld none waiting = popWaiting waiting
+
+unfoldable pub pop : Queued → Pop
+pop q = popHeld (q .held) (q .waiting)

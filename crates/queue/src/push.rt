@@ -1,0 +1,118 @@
+// Putting a code into the queue.
+ghost use mathlib.Core.Path.{_≡_};
+ghost use Prim.Native.Nat.{_<_};
+ghost use Rattle.queue.specs.Queue.{admitBy, isFull};
+ghost use Rattle.code.specs.Write.{domainOutcome};
+ghost use Rattle.queue.specs.Ring.{admissionOutcome, pushOutcome, pushRing, stored};
+use crate::ring::Queue;
+use crate::ring::Slot;
+use crate::well_formed::is_nul;
+use code::Code;
+use code::Domain;
+
+// `UnknownByte` is refusal 2, `NoSuchRow` refusal 3, `Full` refusal 7, `IllFormed` refusal 12.
+pub enum PushAnswer {
+    Accepted,
+    UnknownByte,
+    NoSuchRow,
+    Full,
+    IllFormed,
+}
+
+pub struct Pushed {
+    pub answer: PushAnswer,
+    pub queue: Queue,
+}
+
+// Whether a code is stored, passed over as NUL is, or refused.
+pub(crate) enum Admission {
+    Stored,
+    NotStored,
+    UnknownByte,
+    NoSuchRow,
+    Full,
+}
+
+// What becomes of a code: NUL passes even where the queue is full, and 2 and 3 come before 7.
+pub(crate) fn admission_of(nul: bool, domain: Domain, full: bool) -> Admission
+    ensures { λ r. ⌜ admissionOutcome r ≡ admitBy nul (domainOutcome domain) full ⌝ }
+{
+    if nul {
+        return Admission::NotStored;
+    }
+    match domain {
+        Domain::Inside => {
+            if full {
+                Admission::Full
+            } else {
+                Admission::Stored
+            }
+        }
+        Domain::UnknownByte => Admission::UnknownByte,
+        Domain::NoSuchRow => Admission::NoSuchRow,
+    }
+}
+
+impl Queue {
+    // Whether 64 codes are waiting. A held code is not counted among them.
+    pub(crate) fn is_full(self) -> bool
+        ensures { λ r. ⌜ r ≡ isFull (self .waiting) ⌝ }
+    {
+        let waiting = self.waiting;
+        64 <= waiting
+    }
+
+    // The queue with a code behind those that wait, at the place after the last, which is place 0 at the seam.
+    pub(crate) fn stored(self, code: Code) -> Queue
+        requires { ⌜ (self .start < 64) × (self .waiting < 64) ⌝ }
+        ensures { λ r. ⌜ r ≡ stored self code ⌝ }
+    {
+        let start = self.start;
+        let waiting = self.waiting;
+        let place = (start + waiting) % 64;
+        let mut next = self;
+        next.slots[place] = Slot { code: code };
+        next.waiting = waiting + 1;
+        next
+    }
+
+    // Puts a code behind those that wait. NUL is accepted and not stored; a refusal hands the queue back as it was.
+    pub fn push(self, code: Code) -> Pushed
+        ensures { λ r. ⌜ pushOutcome r ≡ pushRing self code ⌝ }
+    {
+        if !self.is_well_formed() {
+            return Pushed {
+                answer: PushAnswer::IllFormed,
+                queue: self,
+            };
+        }
+        let nul = is_nul(code);
+        let domain = code.domain();
+        let full = self.is_full();
+        match admission_of(nul, domain, full) {
+            Admission::Stored => {
+                let next = self.stored(code);
+                Pushed {
+                    answer: PushAnswer::Accepted,
+                    queue: next,
+                }
+            }
+            Admission::NotStored => Pushed {
+                answer: PushAnswer::Accepted,
+                queue: self,
+            },
+            Admission::UnknownByte => Pushed {
+                answer: PushAnswer::UnknownByte,
+                queue: self,
+            },
+            Admission::NoSuchRow => Pushed {
+                answer: PushAnswer::NoSuchRow,
+                queue: self,
+            },
+            Admission::Full => Pushed {
+                answer: PushAnswer::Full,
+                queue: self,
+            },
+        }
+    }
+}

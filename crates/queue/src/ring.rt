@@ -1,0 +1,44 @@
+// The queue's state: a ring of 64 places whose freed places are used again, and one held code beside it.
+ghost use mathlib.Core.Path.{_≡_};
+ghost use Rattle.queue.specs.Ring.{freshRing};
+use code::Code;
+
+// One place of the ring.
+pub struct Slot {
+    pub code: Code,
+}
+
+// A command that the next pop sends, since the pair before it was needed for what stands in front of it.
+pub enum Held {
+    Absent,
+    Of(Code),
+}
+
+// The waiting codes stand at `start` and behind it, over the seam to place 0 where they reach the end.
+pub struct Queue {
+    pub slots: [Slot; 64],
+    pub start: usize,
+    pub waiting: usize,
+    pub held: Held,
+}
+
+impl Queue {
+    // A queue in which nothing waits and nothing is held.
+    pub fn new() -> Queue
+        ensures { λ r. ⌜ r ≡ freshRing ⌝ }
+    {
+        Queue {
+            slots: [Slot { code: Code::Nul }; 64],
+            start: 0,
+            waiting: 0,
+            held: Held::Absent,
+        }
+    }
+
+    // A fresh queue in the place of any other.
+    pub fn reset(self) -> Queue
+        ensures { λ r. ⌜ r ≡ freshRing ⌝ }
+    {
+        Queue::new()
+    }
+}

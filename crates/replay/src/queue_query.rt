@@ -1,0 +1,250 @@
+// The queries of the queue. They ask one queue, which is kept from query to query.
+ghost use Prim.Native.Nat.{_<_};
+use crate::from_bytes;
+use crate::query::not_a_query;
+use crate::to_bytes;
+use code::Code;
+use queue::CountAnswer;
+use queue::Held;
+use queue::PopAnswer;
+use queue::PushAnswer;
+use queue::Queue;
+use queue::Slot;
+
+// An answer, and the queue as the query left it.
+pub(crate) struct QueueAnswered {
+    pub answer: [u8; 16],
+    pub queue: Queue,
+}
+
+// Whether a kind is one of the queue's.
+pub(crate) fn asks_queue(kind: u8) -> bool {
+    kind / 16 == 3
+}
+
+pub(crate) fn answer(queue: Queue, asked: [u8; 16]) -> QueueAnswered {
+    let kind = asked[0];
+    match kind {
+        0x30 => push(queue, from_bytes::code(asked)),
+        0x31 => pop(queue),
+        0x32 => n_codes(queue),
+        0x33 => told([0u8; 16], queue.reset()),
+        0x34 => told([0u8; 16], Queue::new()),
+        0x35 => told([0u8; 16], with_start(queue, number(asked))),
+        0x36 => told([0u8; 16], with_waiting(queue, number(asked))),
+        0x37 => told(
+            [0u8; 16],
+            with_slot(queue, (asked[7] % 64) as usize, from_bytes::code(asked)),
+        ),
+        0x38 => told([0u8; 16], with_held(queue, held(asked))),
+        0x39 => told(numbers(queue), queue),
+        0x3A => told(slot(queue, (asked[1] % 64) as usize), queue),
+        0x3B => told(held_code(queue), queue),
+        _ => told(not_a_query(), queue),
+    }
+}
+
+fn told(answer: [u8; 16], queue: Queue) -> QueueAnswered {
+    QueueAnswered {
+        answer: answer,
+        queue: queue,
+    }
+}
+
+fn refusal(number: u8) -> [u8; 16] {
+    let mut out = [0u8; 16];
+    out[0] = number;
+    out
+}
+
+fn push(queue: Queue, code: Code) -> QueueAnswered {
+    let pushed = queue.push(code);
+    let next = pushed.queue;
+    let answer = pushed.answer;
+    match answer {
+        PushAnswer::Accepted => told(refusal(0), next),
+        PushAnswer::UnknownByte => told(refusal(2), next),
+        PushAnswer::NoSuchRow => told(refusal(3), next),
+        PushAnswer::Full => told(refusal(7), next),
+        PushAnswer::IllFormed => told(refusal(12), next),
+    }
+}
+
+fn pop(queue: Queue) -> QueueAnswered {
+    let popped = queue.pop();
+    let next = popped.queue;
+    let answer = popped.answer;
+    match answer {
+        PopAnswer::Sent(pair) => {
+            let mut out = [0u8; 16];
+            out[1] = pair.0;
+            out[2] = pair.1;
+            told(out, next)
+        }
+        PopAnswer::IllFormed => told(refusal(12), next),
+    }
+}
+
+fn n_codes(queue: Queue) -> QueueAnswered {
+    let counted = queue.n_codes();
+    let next = counted.queue;
+    let answer = counted.answer;
+    match answer {
+        CountAnswer::Codes(n) => {
+            let b = eight(n);
+            told(
+                [
+                    0,
+                    b[0],
+                    b[1],
+                    b[2],
+                    b[3],
+                    b[4],
+                    b[5],
+                    b[6],
+                    b[7],
+                    0,
+                    0,
+                    0,
+                    0,
+                    0,
+                    0,
+                    0,
+                ],
+                next,
+            )
+        }
+        CountAnswer::IllFormed => told(refusal(12), next),
+    }
+}
+
+// Four bytes as a number, the lowest first.
+fn four(a: u8, b: u8, c: u8, d: u8) -> usize
+    ensures { λ r. ⌜ r < 4294967296 ⌝ }
+{
+    (a as usize) + (b as usize) * 256 + (c as usize) * 65536 + (d as usize) * 16777216
+}
+
+// The number in the eight bytes behind the kind.
+fn number(asked: [u8; 16]) -> usize {
+    let low = four(asked[1], asked[2], asked[3], asked[4]);
+    let high = four(asked[5], asked[6], asked[7], asked[8]);
+    low + high * 4294967296
+}
+
+fn with_start(queue: Queue, start: usize) -> Queue {
+    let mut next = queue;
+    next.start = start;
+    next
+}
+
+fn with_waiting(queue: Queue, waiting: usize) -> Queue {
+    let mut next = queue;
+    next.waiting = waiting;
+    next
+}
+
+fn with_slot(queue: Queue, place: usize, code: Code) -> Queue
+    requires { ⌜ place < 64 ⌝ }
+{
+    let mut next = queue;
+    next.slots[place] = Slot { code: code };
+    next
+}
+
+fn with_held(queue: Queue, held: Held) -> Queue {
+    let slots = queue.slots;
+    let start = queue.start;
+    let waiting = queue.waiting;
+    Queue {
+        slots: slots,
+        start: start,
+        waiting: waiting,
+        held: held,
+    }
+}
+
+fn held(asked: [u8; 16]) -> Held {
+    if asked[7] == 1 {
+        Held::Of(from_bytes::code(asked))
+    } else {
+        Held::Absent
+    }
+}
+
+// The eight bytes of a number, the lowest first.
+fn eight(n: usize) -> [u8; 8] {
+    [
+        (n % 256) as u8,
+        (n / 256 % 256) as u8,
+        (n / 65536 % 256) as u8,
+        (n / 16777216 % 256) as u8,
+        (n / 4294967296 % 256) as u8,
+        (n / 1099511627776 % 256) as u8,
+        (n / 281474976710656 % 256) as u8,
+        (n / 72057594037927936 % 256) as u8,
+    ]
+}
+
+// Start and waiting, eight bytes each.
+fn numbers(queue: Queue) -> [u8; 16] {
+    let a = eight(queue.start);
+    let b = eight(queue.waiting);
+    [
+        a[0],
+        a[1],
+        a[2],
+        a[3],
+        a[4],
+        a[5],
+        a[6],
+        a[7],
+        b[0],
+        b[1],
+        b[2],
+        b[3],
+        b[4],
+        b[5],
+        b[6],
+        b[7],
+    ]
+}
+
+// A code's six bytes, from a place of the answer on.
+fn code_at(first: u8, code: Code) -> [u8; 16] {
+    let c = to_bytes::code(code);
+    [
+        first,
+        c.kind,
+        c.field,
+        c.channel,
+        c.x,
+        c.y,
+        c.z,
+        0,
+        0,
+        0,
+        0,
+        0,
+        0,
+        0,
+        0,
+        0,
+    ]
+}
+
+fn slot(queue: Queue, place: usize) -> [u8; 16]
+    requires { ⌜ place < 64 ⌝ }
+{
+    let slot = queue.slots[place];
+    let code = slot.code;
+    code_at(0, code)
+}
+
+fn held_code(queue: Queue) -> [u8; 16] {
+    let held = queue.held;
+    match held {
+        Held::Absent => [0u8; 16],
+        Held::Of(code) => code_at(1, code),
+    }
+}

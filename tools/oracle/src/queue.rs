@@ -1,0 +1,155 @@
+//! The queries of the queue. Each call is put to the crate's writer at the same time, and its answer
+//! is what the writer says. What the crate does not have is said here: refusals 2 and 3 are those of
+//! writing the code, 7 is due where 64 codes wait and the crate would grow, and 12 is the answer to
+//! every call on a state that the crate cannot be in.
+
+use crate::code::{control, written};
+use crate::names::LETTERS;
+use crate::transcript::Transcript;
+use crate::values::code_bytes;
+use cea608_types::tables::{Channel, Code, Control};
+use cea608_types::Cea608Writer;
+
+pub const PLACES: usize = 64;
+
+const FULL: u8 = 7;
+const ILL_FORMED: u8 = 12;
+
+/// A state of the queue, piece by piece, which a caller may hand in.
+#[derive(Clone)]
+pub struct Pieces {
+    pub slots: [Code; PLACES],
+    pub start: usize,
+    pub waiting: usize,
+    pub held: Option<Code>,
+}
+
+/// The crate's writer, beside the queue that `replay` keeps.
+pub struct Asked<'a> {
+    to: &'a mut Transcript,
+    writer: Cea608Writer,
+    /// How often each refusal was due, by its number, and 0 for accepted pushes.
+    pub answered: [usize; 13],
+    pub nul_while_full: usize,
+}
+
+impl<'a> Asked<'a> {
+    /// Begins with a fresh queue.
+    pub fn new(to: &'a mut Transcript) -> Self {
+        to.add(0x34, &[], &[]);
+        Asked {
+            to,
+            writer: Cea608Writer::default(),
+            answered: [0; 13],
+            nul_while_full: 0,
+        }
+    }
+
+    pub fn n_codes(&self) -> usize {
+        self.writer.n_codes()
+    }
+
+    /// The writer does not tell which of its codes is held, but its debug text does.
+    fn is_full(&self) -> bool {
+        let codes = self.writer.n_codes();
+        let holds = || !format!("{:?}", self.writer).ends_with("pending_code: None }");
+        codes > PLACES || codes == PLACES && !holds()
+    }
+
+    pub fn push(&mut self, code: Code) {
+        let refusal = self.refusal_of(code);
+        if refusal == 0 {
+            self.writer.push(code);
+        }
+        self.answered[usize::from(refusal)] += 1;
+        self.to.add(0x30, &code_bytes(code), &[refusal]);
+    }
+
+    fn refusal_of(&mut self, code: Code) -> u8 {
+        let full = self.is_full();
+        if code == Code::NUL {
+            self.nul_while_full += usize::from(full);
+            return 0;
+        }
+        match written(code) {
+            Err(refusal) => refusal,
+            Ok(_) if full => FULL,
+            Ok(_) => 0,
+        }
+    }
+
+    pub fn pop(&mut self) {
+        let [first, second] = self.writer.pop();
+        self.to.add(0x31, &[], &[0, first, second]);
+    }
+
+    pub fn count(&mut self) {
+        let mut answer = [0; 9];
+        answer[1..].copy_from_slice(&self.writer.n_codes().to_le_bytes());
+        self.to.add(0x32, &[], &answer);
+    }
+
+    pub fn reset(&mut self) {
+        self.writer.reset();
+        self.to.add(0x33, &[], &[]);
+    }
+
+    /// Sets the queue to a state, and brings the crate's writer into the same one.
+    pub fn set_well_formed(&mut self, pieces: &Pieces) {
+        self.set(pieces);
+        self.writer.reset();
+        if let Some(held) = pieces.held {
+            // A single code in front: the pop sends it and holds the command.
+            self.writer.push(LETTERS[0]);
+            self.writer.push(held);
+            self.writer.pop();
+        }
+        for place in 0..pieces.waiting {
+            self.writer
+                .push(pieces.slots[(pieces.start + place) % PLACES]);
+        }
+    }
+
+    /// Sets the queue to any state.
+    pub fn set(&mut self, pieces: &Pieces) {
+        self.to.add(0x34, &[], &[]);
+        self.to.add(0x35, &pieces.start.to_le_bytes(), &[]);
+        self.to.add(0x36, &pieces.waiting.to_le_bytes(), &[]);
+        for (place, code) in pieces.slots.into_iter().enumerate() {
+            if code != Code::NUL {
+                let query = [&code_bytes(code)[..], &[place as u8]].concat();
+                self.to.add(0x37, &query, &[]);
+            }
+        }
+        let held = code_bytes(pieces.held.unwrap_or(Code::NUL));
+        let query = [&held[..], &[pieces.held.is_some().into()]].concat();
+        self.to.add(0x38, &query, &[]);
+    }
+
+    /// Every call that tests the state, on one that is not well formed.
+    pub fn refused_as_ill_formed(&mut self, pushed: &[Code]) {
+        for &code in pushed {
+            self.to.add(0x30, &code_bytes(code), &[ILL_FORMED]);
+        }
+        self.to.add(0x31, &[], &[ILL_FORMED]);
+        self.to.add(0x32, &[], &[ILL_FORMED]);
+    }
+
+    /// Reads the whole state, which shall be these pieces.
+    pub fn read_back(&mut self, pieces: &Pieces) {
+        let numbers = [pieces.start.to_le_bytes(), pieces.waiting.to_le_bytes()].concat();
+        self.to.add(0x39, &[], &numbers);
+        for (place, code) in pieces.slots.into_iter().enumerate() {
+            let answer = [&[0], &code_bytes(code)[..]].concat();
+            self.to.add(0x3A, &[place as u8], &answer);
+        }
+        let held = code_bytes(pieces.held.unwrap_or(Code::NUL));
+        let answer = [&[pieces.held.is_some().into()], &held[..]].concat();
+        self.to.add(0x3B, &[], &answer);
+    }
+}
+
+/// A control code of channel one with no field.
+pub fn plain(code: Control) -> Code {
+    control(None, Channel::ONE, code)
+}

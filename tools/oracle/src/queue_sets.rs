@@ -1,0 +1,376 @@
+//! The sets of the queue: calls in random order beside the crate's writer, and states that are not
+//! well formed, each clause of refusal 12 broken alone.
+
+use crate::code::{control, mid_row_code, preamble_code};
+use crate::code_sets::{CHANNELS, FIELDS_OR_NONE, FLAGS};
+use crate::names::{COMMANDS, LETTERS, MID_ROW_COLOURS, STYLES, SYMBOLS, TABS};
+use crate::queue::{plain, Asked, Pieces, PLACES};
+use crate::random::Random;
+use crate::transcript::Transcript;
+use cea608_types::tables::{Code, Control};
+
+/// The seed of the random calls, or the number in the environment's `SEED`; it is printed.
+fn seed() -> u64 {
+    let seed = std::env::var("SEED").map_or(608, |text| text.parse().expect("SEED is a number"));
+    eprint!("(seed {seed}) ");
+    seed
+}
+
+/// How many codes wait or are held when a stretch of calls turns from pushing to popping: none,
+/// few, nearly 64, 64, and some that press on against the limit.
+const LEVELS: [usize; 14] = [0, 0, 1, 1, 2, 2, 3, 32, 62, 63, 64, 65, 70, 80];
+
+const ROUNDS: usize = 300;
+const STRETCHES: usize = 8;
+
+/// Rounds of calls, each from a fresh queue or from a state set piece by piece with its start
+/// anywhere, so that the codes cross the ring's seam; the count is asked after every call.
+pub fn calls(to: &mut Transcript) {
+    let mut random = Random::from_seed(seed());
+    let mut asked = Asked::new(to);
+    every_unknown(&mut asked);
+    every_command_that_needs_a_backspace(&mut asked);
+    every_three_kinds(&mut asked);
+    refusals_change_nothing(&mut asked, &mut random);
+    for round in 0..ROUNDS {
+        if round % 3 == 0 {
+            asked.reset();
+        } else {
+            asked.set_well_formed(&well_formed(&mut random));
+        }
+        asked.count();
+        for _ in 0..STRETCHES {
+            let level = random.pick(&LEVELS);
+            stretch(&mut asked, &mut random, level);
+        }
+        if round % 5 == 0 {
+            run_empty(&mut asked);
+        }
+    }
+    reached_every_answer(&asked);
+}
+
+/// Each `Unknown` of one byte, by itself and on either side of a letter.
+fn every_unknown(asked: &mut Asked) {
+    for byte in 0..=0xFF {
+        let unknown = Code::Unknown(byte);
+        for codes in [
+            &[unknown][..],
+            &[LETTERS[33], unknown],
+            &[unknown, LETTERS[33]],
+        ] {
+            push_all_and_pop(asked, codes);
+        }
+    }
+}
+
+/// By itself, after one single code and after two.
+fn every_command_that_needs_a_backspace(asked: &mut Asked) {
+    let mid_rows = (0..MID_ROW_COLOURS).map(|colour| mid_row_code(colour, false));
+    for code in mid_rows.chain(SYMBOLS[16..].iter().copied()) {
+        let (command, letter) = (plain(code), LETTERS[33]);
+        for codes in [
+            &[command][..],
+            &[letter, command],
+            &[letter, letter, command],
+        ] {
+            push_all_and_pop(asked, codes);
+        }
+    }
+}
+
+/// Every sequence of three codes of these kinds.
+fn every_three_kinds(asked: &mut Asked) {
+    let kinds = [
+        Code::NUL,
+        LETTERS[33],
+        Code::Unknown(0x14),
+        Code::Unknown(0x80),
+        plain(mid_row_code(0, false)),
+        plain(SYMBOLS[16]),
+        plain(SYMBOLS[0]),
+        plain(COMMANDS[5]),
+        plain(preamble_code(14, STYLES[8], false)),
+        plain(preamble_code(15, STYLES[8], false)),
+        plain(Control::Unknown([0x41, 0x42])),
+        plain(Control::Unknown([0x14, 0x80])),
+    ];
+    for first in kinds {
+        for second in kinds {
+            for third in kinds {
+                push_all_and_pop(asked, &[first, second, third]);
+            }
+        }
+    }
+}
+
+fn push_all_and_pop(asked: &mut Asked, codes: &[Code]) {
+    for &code in codes {
+        asked.push(code);
+        asked.count();
+    }
+    run_empty(asked);
+}
+
+/// A push that is refused, NUL and a count leave the state the same in every piece.
+fn refusals_change_nothing(asked: &mut Asked, random: &mut Random) {
+    for waiting in [0, 1, 63, 64] {
+        for start in [0, 1, 63] {
+            let pieces = Pieces {
+                slots: [(); PLACES].map(|()| waiting_code(random)),
+                start,
+                waiting,
+                ..well_formed(random)
+            };
+            asked.set_well_formed(&pieces);
+            asked.push(Code::NUL);
+            for code in outside_the_domain() {
+                asked.push(code);
+            }
+            if waiting == PLACES {
+                asked.push(LETTERS[33]);
+            }
+            asked.count();
+            asked.read_back(&pieces);
+        }
+    }
+}
+
+/// Pushes until so many are inside, or for a while against the limit, then pops some.
+fn stretch(asked: &mut Asked, random: &mut Random, level: usize) {
+    for _ in 0..level + 8 {
+        if asked.n_codes() >= level {
+            break;
+        }
+        asked.push(any_code(random));
+        asked.count();
+        if random.below(8) == 0 {
+            asked.pop();
+            asked.count();
+        }
+    }
+    for _ in 0..random.below(2 + level as u32) {
+        asked.pop();
+        asked.count();
+    }
+    if random.below(40) == 0 {
+        asked.reset();
+        asked.count();
+    }
+}
+
+/// Pops to the last code and three times more.
+fn run_empty(asked: &mut Asked) {
+    for _ in 0..=2 * asked.n_codes() + 2 {
+        asked.pop();
+        asked.count();
+    }
+}
+
+/// A comparison that never came to a refusal would say nothing of it.
+fn reached_every_answer(asked: &Asked) {
+    for refusal in [0, 2, 3, 7] {
+        assert!(asked.answered[refusal] > 100, "too few answers {refusal}");
+    }
+    assert!(asked.nul_while_full > 10, "too few NULs into a full queue");
+}
+
+fn any_code(random: &mut Random) -> Code {
+    match random.below(13) {
+        0 => Code::NUL,
+        1 => Code::Unknown(random.below(0x100) as u8),
+        2..=5 => random.pick(&LETTERS),
+        6 | 7 => any_control(random, needs_backspace),
+        8 | 9 => any_control(random, needs_none),
+        10 => any_control(random, |random| {
+            preamble_code(
+                random.byte_below(17),
+                random.pick(&STYLES),
+                random.pick(&FLAGS),
+            )
+        }),
+        _ => any_control(random, |random| {
+            let [first, second, ..] = random.below(0x1_0000).to_le_bytes();
+            let mask = random.pick(&[0x7F, 0x7F, 0xFF]);
+            Control::Unknown([first & mask, second & mask])
+        }),
+    }
+}
+
+fn any_control(random: &mut Random, made: fn(&mut Random) -> Control) -> Code {
+    let (field, channel) = (random.pick(&FIELDS_OR_NONE), random.pick(&CHANNELS));
+    control(field, channel, made(random))
+}
+
+/// A mid-row code, or a symbol of 12 and 13.
+fn needs_backspace(random: &mut Random) -> Control {
+    if random.below(2) == 0 {
+        mid_row_code(random.byte_below(MID_ROW_COLOURS), random.pick(&FLAGS))
+    } else {
+        random.pick(&SYMBOLS[16..])
+    }
+}
+
+fn needs_none(random: &mut Random) -> Control {
+    match random.below(3) {
+        0 => random.pick(&SYMBOLS[..16]),
+        1 => random.pick(&TABS),
+        _ => random.pick(&COMMANDS),
+    }
+}
+
+/// A code that may wait.
+fn waiting_code(random: &mut Random) -> Code {
+    match random.below(4) {
+        0 => Code::Unknown(random.byte_below(0x80)),
+        1 => random.pick(&LETTERS),
+        2 => any_control(random, needs_backspace),
+        _ => any_control(random, needs_none),
+    }
+}
+
+/// A well-formed state. What stands at the free places does not matter, and is anything.
+fn well_formed(random: &mut Random) -> Pieces {
+    let start = random.pick(&[0, 1, 31, 60, 61, 62, 63]);
+    let waiting = random.pick(&[0, 1, 2, 3, 40, 62, 63, 64]);
+    let mut slots = [Code::NUL; PLACES];
+    for slot in &mut slots {
+        *slot = any_code(random);
+    }
+    for place in 0..waiting {
+        slots[(start + place) % PLACES] = waiting_code(random);
+    }
+    let held = match random.below(3) {
+        0 => None,
+        1 => Some(any_control(random, needs_backspace)),
+        _ => Some(any_control(random, needs_none)),
+    };
+    Pieces {
+        slots,
+        start,
+        waiting,
+        held,
+    }
+}
+
+/// Every clause of refusal 12 broken alone, in several states each: each call refuses, and the
+/// state that comes back is the same in every piece. Then the state is mended, and works.
+pub fn ill_formed(to: &mut Transcript) {
+    let mut random = Random::from_seed(seed());
+    let mut asked = Asked::new(to);
+    for _ in 0..2 {
+        for start in NUMBERS {
+            break_alone(&mut asked, &mut random, |pieces| pieces.start = start);
+        }
+        for waiting in NUMBERS.into_iter().filter(|&number| number > PLACES) {
+            break_alone(&mut asked, &mut random, |pieces| pieces.waiting = waiting);
+        }
+        for code in not_to_wait() {
+            for place in [0, 1, 31, 62, 63] {
+                break_alone(&mut asked, &mut random, |pieces| {
+                    pieces.waiting = pieces.waiting.max(place + 1);
+                    pieces.slots[(pieces.start + place) % PLACES] = code;
+                });
+            }
+        }
+        for code in not_to_hold() {
+            break_alone(&mut asked, &mut random, |pieces| pieces.held = Some(code));
+        }
+        break_alone(&mut asked, &mut random, |pieces| {
+            pieces.start = usize::MAX;
+            pieces.waiting = usize::MAX;
+        });
+    }
+}
+
+const NUMBERS: [usize; 14] = [
+    64,
+    65,
+    66,
+    100,
+    127,
+    128,
+    255,
+    256,
+    1 << 31,
+    1 << 32,
+    1 << 63,
+    (1 << 63) + 5,
+    usize::MAX - 63,
+    usize::MAX,
+];
+
+/// NUL, and what refusals 2 and 3 are about.
+fn not_to_wait() -> Vec<Code> {
+    let mut codes = vec![Code::NUL];
+    codes.extend(outside_the_domain());
+    codes
+}
+
+fn outside_the_domain() -> Vec<Code> {
+    let mut codes: Vec<Code> = [0x80, 0xC1, 0xFF].map(Code::Unknown).into();
+    for bytes in [[0x80, 0x20], [0x14, 0x80], [0xFF, 0xFF]] {
+        codes.push(plain(Control::Unknown(bytes)));
+    }
+    for row in [15, 16, 255] {
+        codes.push(plain(preamble_code(row, STYLES[0], false)));
+    }
+    codes
+}
+
+/// Single codes, and two-byte codes outside the domain.
+fn not_to_hold() -> Vec<Code> {
+    let mut codes = vec![Code::NUL, LETTERS[33], LETTERS[95]];
+    codes.extend([0x00, 0x14, 0x41, 0x7F].map(Code::Unknown));
+    codes.extend(outside_the_domain());
+    codes
+}
+
+/// Breaks a well-formed state in one way.
+fn break_alone(asked: &mut Asked, random: &mut Random, broken_by: impl Fn(&mut Pieces)) {
+    let good = Pieces {
+        slots: [(); PLACES].map(|()| waiting_code(random)),
+        ..well_formed(random)
+    };
+    let mut broken = good.clone();
+    broken_by(&mut broken);
+    asked.set(&broken);
+    let row_15 = plain(preamble_code(15, STYLES[0], false));
+    asked.refused_as_ill_formed(&[Code::NUL, LETTERS[33], Code::Unknown(0x80), row_15]);
+    asked.read_back(&broken);
+    asked.set_well_formed(&good);
+    asked.read_back(&good);
+    asked.count();
+    asked.pop();
+    asked.count();
+}
+
+/// 01's pairs tried by hand, and a few calls from a fixed seed.
+pub fn sample(to: &mut Transcript) {
+    let mut asked = Asked::new(to);
+    let (h, i, exclamation) = (LETTERS[0x28], LETTERS[0x49], LETTERS[0x01]);
+    let a_acute = plain(SYMBOLS[16]);
+    for codes in [&[][..], &[h, a_acute], &[a_acute], &[h, i, exclamation]] {
+        for &code in codes {
+            asked.push(code);
+        }
+        for _ in 0..3 {
+            asked.pop();
+        }
+        asked.count();
+    }
+    for _ in 0..65 {
+        asked.push(h);
+    }
+    asked.push(Code::NUL);
+    asked.count();
+    asked.reset();
+    asked.count();
+    let mut random = Random::from_seed(608);
+    for level in [3, 64] {
+        asked.set_well_formed(&well_formed(&mut random));
+        stretch(&mut asked, &mut random, level);
+        run_empty(&mut asked);
+    }
+    break_alone(&mut asked, &mut random, |pieces| pieces.start = 64);
+}
