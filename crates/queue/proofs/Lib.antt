@@ -7,6 +7,7 @@ pub mod Pairs
 pub mod Places
 pub mod Progress
 pub mod Refines
+pub mod Sends
 pub mod TriedByHand
 pub mod Turns
 pub mod WellFormed

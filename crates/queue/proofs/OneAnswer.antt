@@ -1,6 +1,5 @@
 -- No second answer can meet a promise: the outcome of an answer and the record beside it tell the whole of what a call
--- returns for each kind of answer, since the answer
--- is found again from its outcome.
+-- returns, since the answer is found again from its outcome.
 -- Assumes nothing.
 use mathlib.Core.Bool.{cond}
 use mathlib.Core.Path.{_≡_, refl, ap, ap₂, sym, _∙_}
@@ -47,7 +46,7 @@ push-told r s e =
     ap₂ {C = Pushed} (λ (a : PushAnswer) (q : Queue). record { answer = a; queue = q })
     (push-answer-told (r .answer) (s .answer) (ap (λ (w : Outcome Unit × Queue). w .0) e)) (ap beside e)
 
--- a pop's; the pair of a refusal is never looked at
+-- a pop's; the number of a refusal is not looked at, since a pop is refused by 12 only
 abbrev popAnswerOf : Outcome Pair → PopAnswer
 popAnswerOf (answer p) = pop-answer.Sent p
 popAnswerOf (refused n) = pop-answer.IllFormed

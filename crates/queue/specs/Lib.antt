@@ -1,3 +1,4 @@
 pub mod Queue
 pub mod Ring
 pub mod Calls
+pub mod Sent

@@ -40,8 +40,8 @@ pub(crate) fn pair_of(code: Code) -> Pair
     }
 }
 
-// A command with no single code before it. One that needs a backspace is held, and a space goes out, which a set that
-// does not know the command shows and the others take back.
+// A command with no single code before it. One that needs a backspace is held, and a space goes out first: an extended
+// character takes its place, and a mid-row code, which takes nothing back, stands behind it.
 pub(crate) fn command_turn(command: Code) -> Turn
     ensures { λ r. ⌜ r ≡ turnOf 1 (popCommand command []) ⌝ }
 {

@@ -1,4 +1,4 @@
-// Whether a state that was handed in is one that the queue could have made, as refusal 12 asks.
+// Whether a state that was handed in meets the clauses of refusal 12.
 ghost use mathlib.Core.Path.{_≡_};
 ghost use Prim.Native.Nat.{_≤_, _<_};
 ghost use Rattle.queue.specs.Queue.{isInside, isNul, mayWait, mayBeHeld};

@@ -1,7 +1,7 @@
 //! The queries of the queue. Each call is put to the crate's writer at the same time, and its answer
 //! is what the writer says. What the crate does not have is said here: refusals 2 and 3 are those of
-//! writing the code, 7 is due where 64 codes wait and the crate would grow, and 12 is the answer to
-//! every call on a state that the crate cannot be in.
+//! writing the code, 7 is due where 64 codes wait and the crate would grow, and 12 is the answer of a
+//! push, a pop and a count to a state that its clauses rule out.
 
 use crate::code::{control, written};
 use crate::names::LETTERS;

@@ -64,17 +64,22 @@ fn every_unknown(asked: &mut Asked) {
     }
 }
 
-/// By itself, after one single code and after two.
+/// By itself, after one single code and after two, on both channels.
 fn every_command_that_needs_a_backspace(asked: &mut Asked) {
-    let mid_rows = (0..MID_ROW_COLOURS).map(|colour| mid_row_code(colour, false));
-    for code in mid_rows.chain(SYMBOLS[16..].iter().copied()) {
-        let (command, letter) = (plain(code), LETTERS[33]);
-        for codes in [
-            &[command][..],
-            &[letter, command],
-            &[letter, letter, command],
-        ] {
-            push_all_and_pop(asked, codes);
+    let mut commands = SYMBOLS[16..].to_vec();
+    for underline in FLAGS {
+        commands.extend((0..MID_ROW_COLOURS).map(|colour| mid_row_code(colour, underline)));
+    }
+    for channel in CHANNELS {
+        for &code in &commands {
+            let (command, letter) = (control(None, channel, code), LETTERS[33]);
+            for codes in [
+                &[command][..],
+                &[letter, command],
+                &[letter, letter, command],
+            ] {
+                push_all_and_pop(asked, codes);
+            }
         }
     }
 }
@@ -159,7 +164,7 @@ fn stretch(asked: &mut Asked, random: &mut Random, level: usize) {
     }
 }
 
-/// Pops to the last code and three times more.
+/// Pops twice for each code and three times more, which is to the last code and beyond.
 fn run_empty(asked: &mut Asked) {
     for _ in 0..=2 * asked.n_codes() + 2 {
         asked.pop();
@@ -254,29 +259,30 @@ fn well_formed(random: &mut Random) -> Pieces {
 }
 
 /// Every clause of refusal 12 broken alone, in several states each: each call refuses, and the
-/// state that comes back is the same in every piece. Then the state is mended, and works.
+/// state that comes back is the same in every piece. A good state in its place works, and a reset
+/// takes it to a fresh one.
 pub fn ill_formed(to: &mut Transcript) {
     let mut random = Random::from_seed(seed());
     let mut asked = Asked::new(to);
     for _ in 0..2 {
         for start in NUMBERS {
-            break_alone(&mut asked, &mut random, |pieces| pieces.start = start);
+            break_and_reset(&mut asked, &mut random, |pieces| pieces.start = start);
         }
         for waiting in NUMBERS.into_iter().filter(|&number| number > PLACES) {
-            break_alone(&mut asked, &mut random, |pieces| pieces.waiting = waiting);
+            break_and_reset(&mut asked, &mut random, |pieces| pieces.waiting = waiting);
         }
         for code in not_to_wait() {
             for place in [0, 1, 31, 62, 63] {
-                break_alone(&mut asked, &mut random, |pieces| {
+                break_and_reset(&mut asked, &mut random, |pieces| {
                     pieces.waiting = pieces.waiting.max(place + 1);
                     pieces.slots[(pieces.start + place) % PLACES] = code;
                 });
             }
         }
         for code in not_to_hold() {
-            break_alone(&mut asked, &mut random, |pieces| pieces.held = Some(code));
+            break_and_reset(&mut asked, &mut random, |pieces| pieces.held = Some(code));
         }
-        break_alone(&mut asked, &mut random, |pieces| {
+        break_and_reset(&mut asked, &mut random, |pieces| {
             pieces.start = usize::MAX;
             pieces.waiting = usize::MAX;
         });
@@ -343,6 +349,23 @@ fn break_alone(asked: &mut Asked, random: &mut Random, broken_by: impl Fn(&mut P
     asked.count();
     asked.pop();
     asked.count();
+}
+
+/// The same, and then a reset of such a state, which no clause refuses.
+fn break_and_reset(asked: &mut Asked, random: &mut Random, broken_by: impl Fn(&mut Pieces)) {
+    break_alone(asked, random, &broken_by);
+    let mut broken = well_formed(random);
+    broken_by(&mut broken);
+    asked.set(&broken);
+    asked.reset();
+    asked.read_back(&Pieces {
+        slots: [Code::NUL; PLACES],
+        start: 0,
+        waiting: 0,
+        held: None,
+    });
+    asked.count();
+    asked.pop();
 }
 
 /// 01's pairs tried by hand, and a few calls from a fixed seed.
