@@ -48,8 +48,8 @@ const SETS: [(&str, Fill); 13] = [
     ("modes_and_ids", Whole(event::modes_and_ids)),
     ("after_every_pair", Whole(receiver::after_every_pair)),
     ("sequences", FromSeed(receiver::sequences)),
-    ("queue", Whole(queue_sets::calls)),
-    ("queue_ill_formed", Whole(queue_sets::ill_formed)),
+    ("queue", FromSeed(queue_sets::calls)),
+    ("queue_ill_formed", FromSeed(queue_sets::ill_formed)),
 ];
 
 fn main() {

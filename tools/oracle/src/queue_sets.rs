@@ -5,16 +5,9 @@ use crate::code::{control, mid_row_code, preamble_code};
 use crate::code_sets::{CHANNELS, FIELDS_OR_NONE, FLAGS};
 use crate::names::{COMMANDS, LETTERS, MID_ROW_COLOURS, STYLES, SYMBOLS, TABS};
 use crate::queue::{plain, Asked, Pieces, PLACES};
-use crate::random::Random;
+use crate::random::{Random, SEED};
 use crate::transcript::Transcript;
 use cea608_types::tables::{Code, Control};
-
-/// The seed of the random calls, or the number in the environment's `SEED`; it is printed.
-fn seed() -> u64 {
-    let seed = std::env::var("SEED").map_or(608, |text| text.parse().expect("SEED is a number"));
-    eprint!("(seed {seed}) ");
-    seed
-}
 
 /// How many codes wait or are held when a stretch of calls turns from pushing to popping: none,
 /// few, nearly 64, 64, and some that press on against the limit.
@@ -25,23 +18,22 @@ const STRETCHES: usize = 8;
 
 /// Rounds of calls, each from a fresh queue or from a state set piece by piece with its start
 /// anywhere, so that the codes cross the ring's seam; the count is asked after every call.
-pub fn calls(to: &mut Transcript) {
-    let mut random = Random::from_seed(seed());
+pub fn calls(to: &mut Transcript, random: &mut Random) {
     let mut asked = Asked::new(to);
     every_unknown(&mut asked);
     every_command_that_needs_a_backspace(&mut asked);
     every_three_kinds(&mut asked);
-    refusals_change_nothing(&mut asked, &mut random);
+    refusals_change_nothing(&mut asked, random);
     for round in 0..ROUNDS {
         if round % 3 == 0 {
             asked.reset();
         } else {
-            asked.set_well_formed(&well_formed(&mut random));
+            asked.set_well_formed(&well_formed(random));
         }
         asked.count();
         for _ in 0..STRETCHES {
             let level = random.pick(&LEVELS);
-            stretch(&mut asked, &mut random, level);
+            stretch(&mut asked, random, level);
         }
         if round % 5 == 0 {
             run_empty(&mut asked);
@@ -261,28 +253,27 @@ fn well_formed(random: &mut Random) -> Pieces {
 /// Every clause of refusal 12 broken alone, in several states each: each call refuses, and the
 /// state that comes back is the same in every piece. A good state in its place works, and a reset
 /// takes it to a fresh one.
-pub fn ill_formed(to: &mut Transcript) {
-    let mut random = Random::from_seed(seed());
+pub fn ill_formed(to: &mut Transcript, random: &mut Random) {
     let mut asked = Asked::new(to);
     for _ in 0..2 {
         for start in NUMBERS {
-            break_and_reset(&mut asked, &mut random, |pieces| pieces.start = start);
+            break_and_reset(&mut asked, random, |pieces| pieces.start = start);
         }
         for waiting in NUMBERS.into_iter().filter(|&number| number > PLACES) {
-            break_and_reset(&mut asked, &mut random, |pieces| pieces.waiting = waiting);
+            break_and_reset(&mut asked, random, |pieces| pieces.waiting = waiting);
         }
         for code in not_to_wait() {
             for place in [0, 1, 31, 62, 63] {
-                break_and_reset(&mut asked, &mut random, |pieces| {
+                break_and_reset(&mut asked, random, |pieces| {
                     pieces.waiting = pieces.waiting.max(place + 1);
                     pieces.slots[(pieces.start + place) % PLACES] = code;
                 });
             }
         }
         for code in not_to_hold() {
-            break_and_reset(&mut asked, &mut random, |pieces| pieces.held = Some(code));
+            break_and_reset(&mut asked, random, |pieces| pieces.held = Some(code));
         }
-        break_and_reset(&mut asked, &mut random, |pieces| {
+        break_and_reset(&mut asked, random, |pieces| {
             pieces.start = usize::MAX;
             pieces.waiting = usize::MAX;
         });
@@ -389,7 +380,7 @@ pub fn sample(to: &mut Transcript) {
     asked.count();
     asked.reset();
     asked.count();
-    let mut random = Random::from_seed(608);
+    let mut random = Random::from_seed(SEED);
     for level in [3, 64] {
         asked.set_well_formed(&well_formed(&mut random));
         stretch(&mut asked, &mut random, level);
