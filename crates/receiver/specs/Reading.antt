@@ -21,6 +21,11 @@ abbrev pub after : Cea608State → List Pair → Cea608State
 after s [] = s
 after s (p ∷ ps) = after (step s p .1) ps
 
+-- what each pair gives, with the state after it
+abbrev pub steps : Cea608State → List Pair → List Stepped
+steps s [] = []
+steps s (p ∷ ps) = step s p ∷ steps (step s p .1) ps
+
 -- the events among what was given, in order
 abbrev pub events : List (Outcome (Option Cea608)) → List Cea608
 events [] = []
