@@ -85,7 +85,7 @@ impl Queue {
     }
 
     // Whether refusal 12 does not apply.
-    pub(crate) fn is_well_formed(self) -> bool
+    pub fn is_well_formed(self) -> bool
         ensures { λ r. ⌜ r ≡ wellFormed self ⌝ }
     {
         let start = self.start;

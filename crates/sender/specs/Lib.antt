@@ -1,0 +1,4 @@
+pub mod Sending
+pub mod Sender
+pub mod Drain
+pub mod Next

@@ -1,0 +1,94 @@
+-- The sender's state: which lists it stands for, which states are well formed (01's refusal 12), and the state that each
+-- call leaves. What a call answers is the definition's at the lists.
+use Prim.Native.Nat.{ℕ}
+use mathlib.Core.Bool.{Bool, true, false, cond, _&&_}
+use mathlib.Core.Option.{Option, none, some}
+use Rattle.code.specs.Outcome.{Outcome, answer, refused}
+use Rattle.code.specs.Parity.{isOdd}
+use Rattle.code.specs.declared.code.Code.{Code}
+use Rattle.code.specs.declared.pair.Pair.{Pair}
+use Rattle.queue.specs.Queue.{count}
+use Rattle.queue.specs.Ring.{countAnswerOutcome, freshRing, popAnswerOutcome, popRing, pushAnswerOutcome, pushRing}
+use Rattle.queue.specs.Ring as ring
+use Rattle.queue.specs.declared.ring.Queue.{Queue}
+use Rattle.sender.specs.Sending.{Sending, isCommandPair, isIdle, send, sending}
+use Rattle.sender.specs.declared.idle.IdleAnswer.{IdleAnswer}
+use Rattle.sender.specs.declared.idle.IdleAnswer.the-variants as idle-answer
+use Rattle.sender.specs.declared.idle.Idleness.{Idleness}
+use Rattle.sender.specs.declared.count.Counted.{Counted}
+use Rattle.sender.specs.declared.push.Pushed.{Pushed}
+use Rattle.sender.specs.declared.send.Sent.{Sent}
+use Rattle.sender.specs.declared.sender.Owed.{Owed}
+use Rattle.sender.specs.declared.sender.Owed.the-variants as owed
+use Rattle.sender.specs.declared.sender.Sender.{Sender}
+
+abbrev pub owedIn : Owed → Option Pair
+owedIn owed.Absent = none
+owedIn (owed.Repeat p) = some p
+
+abbrev pub owedAs : Option Pair → Owed
+owedAs none = owed.Absent
+owedAs (some p) = owed.Repeat p
+
+-- the lists that a state stands for
+abbrev pub view : Sender → Sending
+view s = sending (ring.view (s .queue)) (owedIn (s .owed))
+
+abbrev pub sender : Queue → Owed → Sender
+sender q o = record { queue = q; owed = o }
+
+-- well formed: a queue that is, and an owed pair absent or a command pair of odd parity
+abbrev pub mayBeOwed : Pair → Bool
+mayBeOwed p = isOdd (p .0) && isOdd (p .1) && isCommandPair p
+
+abbrev pub owedFits : Option Pair → Bool
+owedFits none = true
+owedFits (some p) = mayBeOwed p
+
+unfoldable pub wellFormed : Sender → Bool
+wellFormed s = ring.wellFormed (s .queue) && owedFits (owedIn (s .owed))
+
+-- of any call: an ill-formed state is refused, 12, and comes back as it was
+abbrev pub tested : {A : Type 0} → Sender → Outcome A × Sender → Outcome A × Sender
+tested s done = cond (wellFormed s) done (refused 12, s)
+
+abbrev pub freshSender : Sender
+freshSender = sender freshRing owed.Absent
+
+unfoldable pub pushSender : Sender → Code → Outcome Unit × Sender
+pushSender s c = tested s (pushRing (s .queue) c .0, sender (pushRing (s .queue) c .1) (s .owed))
+
+-- an owed repeat leaves the queue as it is
+abbrev pub queueAfter : Option Pair → Queue → Queue
+queueAfter (some p) q = q
+queueAfter none q = popRing q .1
+
+unfoldable pub sendSender : Sender → Outcome Pair × Sender
+sendSender s =
+    tested s
+    (answer (send (view s) .pair), sender (queueAfter (owedIn (s .owed)) (s .queue)) (owedAs (send (view s) .next .owed)))
+
+-- `n_codes` is the queue's: an owed pair is no code
+unfoldable pub countSender : Sender → Outcome ℕ × Sender
+countSender s = tested s (answer (count (ring.view (s .queue))), s)
+
+unfoldable pub idleSender : Sender → Outcome Bool × Sender
+idleSender s = tested s (answer (isIdle (view s)), s)
+
+-- what each answer says; those of a push, a send and a count are the queue's answers
+abbrev pub pushOutcome : Pushed → Outcome Unit × Sender
+pushOutcome r = (pushAnswerOutcome (r .answer), r .sender)
+
+abbrev pub sendOutcome : Sent → Outcome Pair × Sender
+sendOutcome r = (popAnswerOutcome (r .answer), r .sender)
+
+abbrev pub countOutcome : Counted → Outcome ℕ × Sender
+countOutcome r = (countAnswerOutcome (r .answer), r .sender)
+
+abbrev pub idleAnswerOutcome : IdleAnswer → Outcome Bool
+idleAnswerOutcome idle-answer.Idle = answer true
+idleAnswerOutcome idle-answer.Busy = answer false
+idleAnswerOutcome idle-answer.IllFormed = refused 12
+
+abbrev pub idleOutcome : Idleness → Outcome Bool × Sender
+idleOutcome r = (idleAnswerOutcome (r .answer), r .sender)

@@ -1,0 +1,35 @@
+// The sender's state: the queue, and the pair that is owed a second time.
+ghost use mathlib.Core.Path.{_≡_};
+ghost use Rattle.sender.specs.Sender.{freshSender};
+use code::Pair;
+use queue::Queue;
+
+// A command pair that has been sent once.
+pub enum Owed {
+    Absent,
+    Repeat(Pair),
+}
+
+pub struct Sender {
+    pub queue: Queue,
+    pub owed: Owed,
+}
+
+impl Sender {
+    // A sender in which nothing waits, nothing is held and nothing is owed.
+    pub fn new() -> Sender
+        ensures { λ r. ⌜ r ≡ freshSender ⌝ }
+    {
+        Sender {
+            queue: Queue::new(),
+            owed: Owed::Absent,
+        }
+    }
+
+    // A fresh sender in the place of any other.
+    pub fn reset(self) -> Sender
+        ensures { λ r. ⌜ r ≡ freshSender ⌝ }
+    {
+        Sender::new()
+    }
+}
