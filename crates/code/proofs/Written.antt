@@ -87,6 +87,15 @@ pub read-as-text : (a b : ℕ) → isOdd a ≡ true → isOdd b ≡ true → isC
 unfolding readPair
 read-as-text a b oa ob e = rw (oa, ob, e)
 
+-- and one with a byte of even parity is refused, 1
+pub even-is-refused : (a b : ℕ) → (isOdd a && isOdd b) ≡ false → readPair a b ≡ refused 1
+unfolding readPair
+even-is-refused a b e = rw e
+
+pub odd-is-read : (a b : ℕ) → (isOdd a && isOdd b) ≡ true → readPair a b ≡ answer (codesOf (stripped a) (stripped b))
+unfolding readPair
+odd-is-read a b e = rw e
+
 -- a code is in the domain exactly where it can be written, and the refusals are the same
 abbrev pub settled : Outcome (Pair × ℕ) → Outcome Unit
 settled (answer x) = answer tt

@@ -42,7 +42,7 @@ differs : (t u : Bool) → (t ≡ true → ⊥) → t && u ≡ false
 differs true u h = absurd (h refl)
 differs false u h = refl
 
-quiet-is-no-repeat : (p : Pair) (c : ControlCode) (y : Code) (l : LastPair) → readPair (p .0) (p .1) ≡ answer (code.Control c, y) → awaits l ≡ false → isLast p l ≡ false
+pub quiet-is-no-repeat : (p : Pair) (c : ControlCode) (y : Code) (l : LastPair) → readPair (p .0) (p .1) ≡ answer (code.Control c, y) → awaits l ≡ false → isLast p l ≡ false
 quiet-is-no-repeat p c y last.Absent e quiet = refl
 quiet-is-no-repeat p c y (last.Was q) e quiet =
     differs (eqb (q .0) (p .0)) (eqb (q .1) (p .1))

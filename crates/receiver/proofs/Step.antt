@@ -1,17 +1,17 @@
 -- What one pair does: a refusal changes nothing, text is never skipped, and a command that has no event still sets the
 -- channel.
 -- Assumes nothing.
-use mathlib.Core.Bool.{Bool, true, false, cond}
+use mathlib.Core.Bool.{Bool, true, false, cond, _&&_}
 use mathlib.Core.List.{[], _∷_, map}
 use mathlib.Core.Option.{Option, none, some}
 use mathlib.Core.Path.{_≡_, refl, ap, sym, _∙_}
 use Prim.Native.Nat.{ℕ}
 use Rattle.code.proofs.OneAnswer.{clash}
-use Rattle.code.proofs.Written.{read-as-text, single-is-no-command}
+use Rattle.code.proofs.Written.{even-is-refused, odd-is-read, read-as-text, single-is-no-command}
 use Rattle.code.specs.Code.{controlChar}
 use Rattle.code.specs.Outcome.{Outcome, answer, refused}
 use Rattle.code.specs.Parity.{isOdd, stripped}
-use Rattle.code.specs.Read.{isCommand, readPair, single}
+use Rattle.code.specs.Read.{codesOf, isCommand, readPair, single}
 use Rattle.code.specs.declared.channel.Channel.{Channel}
 use Rattle.code.specs.declared.code.Code.{Code}
 use Rattle.code.specs.declared.code.Code.the-variants as code
@@ -21,7 +21,7 @@ use Rattle.code.specs.declared.control.ControlCode.{ControlCode}
 use Rattle.code.specs.declared.pair.Pair.{Pair}
 use Rattle.code.specs.declared.symbol.Symbol.{Symbol}
 use Rattle.receiver.specs.Heard.{commandEvent, controlEvent, eventOf}
-use Rattle.receiver.specs.Reading.{afterReadingOnce, once}
+use Rattle.receiver.specs.Reading.{afterReadingOnce, once, onceCodes}
 use Rattle.receiver.specs.Receiver.{acts, afterReading, heardCodes, heardCommand, heardText, isLast, state, step, Stepped}
 use Rattle.receiver.specs.declared.state.Cea608State.{Cea608State}
 use Rattle.receiver.specs.declared.state.LastPair.the-variants as last
@@ -50,6 +50,13 @@ once-where-no-repeat s p c h other = ap (afterReadingOnce s p) (h .1) ∙ sym (c
 pub hit-is-refused : (s : Cea608State) (p : Pair) (n : ℕ) → readPair (p .0) (p .1) ≡ refused n → step s p ≡ (refused n, s)
 hit-is-refused s p n h = ap (afterReading s p) h
 
+-- so 1 comes exactly where a byte has an even count of ones
+abbrev pub isOddPair : Pair → Bool
+isOddPair p = isOdd (p .0) && isOdd (p .1)
+
+pub even-is-refused-1 : (s : Cea608State) (p : Pair) → isOddPair p ≡ false → step s p ≡ (refused 1, s)
+even-is-refused-1 s p even = hit-is-refused s p 1 (even-is-refused (p .0) (p .1) even)
+
 module _ (s : Cea608State) (p : Pair) (n : ℕ) where
   refused-command : (t : Bool) (x y : Stepped) → ((x .0 ≡ refused n) → ⊥) → ((y .0 ≡ refused n) → ⊥) → cond t x y .0 ≡ refused n → ⊥
   refused-command true x y hx hy e = hx e
@@ -68,6 +75,17 @@ module _ (s : Cea608State) (p : Pair) (n : ℕ) where
   pub a-refusal-changes-nothing : step s p .0 ≡ refused n → step s p .1 ≡ s
   a-refusal-changes-nothing e = refused-reading (readPair (p .0) (p .1)) e
 
+  codes-are-answered : (x y : Code) → heardCodes s p x y .0 ≡ refused n → ⊥
+  codes-are-answered (code.Control c) y e = refused-command (isLast p (s .«last_data»)) _ _ (λ q. clash q) (λ q. clash q) e
+  codes-are-answered code.Nul y e = clash e
+  codes-are-answered (code.Letter l) y e = clash e
+  codes-are-answered (code.Unknown b) y e = clash e
+
+  pub odd-is-not-refused : isOddPair p ≡ true → step s p .0 ≡ refused n → ⊥
+  odd-is-not-refused odd e =
+      let codes = codesOf (stripped (p .0)) (stripped (p .1)) in
+      codes-are-answered (codes .0) (codes .1) (sym (ap (λ (o : Outcome (Code × Code)). afterReading s p o .0) (odd-is-read (p .0) (p .1) odd)) ∙ e)
+
 -- what is no command is text, whatever the last pair was
 pub no-command : (s : Cea608State) (p : Pair) (x y : Code) → ((c : ControlCode) → x ≡ code.Control c → ⊥) → heardCodes s p x y ≡ heardText s p x y
 no-command s p (code.Control c) y h = absurd (h c refl)
@@ -79,6 +97,21 @@ pub text-is-never-skipped : (s : Cea608State) (p : Pair) → isOdd (p .0) ≡ tr
 text-is-never-skipped s p odd0 odd1 text =
     ap (afterReading s p) (read-as-text (p .0) (p .1) odd0 odd1 text)
     ∙ no-command s p (single (stripped (p .0))) (single (stripped (p .1))) (single-is-no-command (stripped (p .0)))
+
+-- read once, a command acts and text is text
+pub command-once : (s : Cea608State) (p : Pair) (c : ControlCode) → IsCommand p c → once s p ≡ acts s p c
+command-once s p c h = ap (afterReadingOnce s p) (h .1)
+
+no-command-once : (s : Cea608State) (p : Pair) (x y : Code) → ((c : ControlCode) → x ≡ code.Control c → ⊥) → onceCodes s p x y ≡ heardText s p x y
+no-command-once s p (code.Control c) y h = absurd (h c refl)
+no-command-once s p code.Nul y h = refl
+no-command-once s p (code.Letter l) y h = refl
+no-command-once s p (code.Unknown b) y h = refl
+
+pub text-once : (s : Cea608State) (p : Pair) → isOdd (p .0) ≡ true → isOdd (p .1) ≡ true → isCommand (stripped (p .0)) ≡ false → once s p ≡ heardText s p (single (stripped (p .0))) (single (stripped (p .1)))
+text-once s p odd0 odd1 text =
+    ap (afterReadingOnce s p) (read-as-text (p .0) (p .1) odd0 odd1 text)
+    ∙ no-command-once s p (single (stripped (p .0))) (single (stripped (p .1))) (single-is-no-command (stripped (p .0)))
 
 -- alarms, flash and the text commands, `Unknown`, and a symbol without a character have no event
 pub commands-without-event : (ch : Channel) → map (commandEvent ch) (AlarmOff ∷ AlarmOn ∷ FlashOn ∷ TextRestart ∷ ResumeTextDisplay ∷ []) ≡ none ∷ none ∷ none ∷ none ∷ none ∷ []

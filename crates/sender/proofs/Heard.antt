@@ -1,0 +1,185 @@
+-- What a set hears of pairs that were sent doubled over a line that spoils at most one copy in each stretch: as much as if
+-- each pair were read once. Along a stretch the receiver holds no command before the hit, and the stretch's own behind it;
+-- so of the two copies of each pair exactly one acts, the first before the hit and the second behind it.
+-- Assumes nothing.
+use mathlib.Core.Bool.{Bool, true, false, cond, _&&_, true≢false}
+use mathlib.Core.List.{List, [], _∷_}
+use mathlib.Core.Option.{Option, none, some}
+use mathlib.Core.Path.{_≡_, refl, ap, ap₂, sym, subst, _∙_}
+use borrow.Author.Tests.{eq-eqb, eqb-true}
+use lib.Dec.{eqb}
+use Prim.Native.Nat.{ℕ}
+use Rattle.code.proofs.Written.{read-as-command}
+use Rattle.code.specs.Outcome.{Outcome, answer, refused}
+use Rattle.code.specs.Parity.{isOdd, stripped}
+use Rattle.code.specs.Read.{commandOf, single}
+use Rattle.code.specs.Write.{pair}
+use Rattle.code.specs.declared.code.Code.the-variants as code
+use Rattle.code.specs.declared.control.ControlCode.{ControlCode}
+use Rattle.code.specs.declared.pair.Pair.{Pair}
+use Rattle.event.specs.declared.event.Cea608.{Cea608}
+use Rattle.receiver.proofs.Copies.{last-is-last}
+use Rattle.receiver.proofs.FrameRate.{quiet-is-no-repeat}
+use Rattle.receiver.proofs.Step.{IsCommand, command-acts, command-once, even-is-refused-1, repeat-is-skipped, text-is-never-skipped, text-once}
+use Rattle.receiver.specs.Padding.{awaits}
+use Rattle.receiver.specs.Reading.{after, afterOnce, answers, events, once, readOnce}
+use Rattle.receiver.specs.Receiver.{acts, fieldAfter, heardText, isLast, state, step, textFor}
+use Rattle.receiver.specs.declared.state.Cea608State.{Cea608State}
+use Rattle.receiver.specs.declared.state.LastChannel.{LastChannel}
+use Rattle.receiver.specs.declared.state.LastPair.{LastPair}
+use Rattle.receiver.specs.declared.state.LastPair.the-variants as last
+use Rattle.sender.specs.Agreement.{Line, goesOn, isOddPair, samePair, wasSpoiled}
+use Rattle.sender.specs.Agreement as line
+use Rattle.sender.specs.Doubled.{doubled}
+use Rattle.sender.specs.Sending.{isCommandPair}
+
+abbrev pub AllOdd : List Pair → Type 0
+AllOdd [] = Unit
+AllOdd (p ∷ ps) = (isOddPair p ≡ true) × AllOdd ps
+
+-- two states with the same channel and field, whatever their last pairs
+pub record Same (s t : Cea608State) : Type 0 where
+  pub channel : s .«last_channel» ≡ t .«last_channel»
+  pub field : s .«last_received_field» ≡ t .«last_received_field»
+
+-- what arrived, read from one state, is heard as the pairs read once from another
+pub record Agrees (s t : Cea608State) (arrived ps : List Pair) : Type 0 where
+  pub same-events : events (answers s arrived) ≡ events (readOnce t ps)
+  pub ends-same : Same (after s arrived) (afterOnce t ps)
+
+-- what the receiver holds: behind a hit the stretch's own command, else no command
+abbrev pub Ready : Option Pair → LastPair → Type 0
+Ready none l = awaits l ≡ false
+Ready (some p) l = l ≡ last.Was p
+
+-- so it takes a copy for a repeat exactly where one was spoiled in the stretch before
+repeat-is-told : (h : Option Pair) (l : LastPair) (p : Pair) (c : ControlCode) → IsCommand p c → Ready h l → isLast p l ≡ wasSpoiled h p
+repeat-is-told none l p c k r = quiet-is-no-repeat p c (k .0) l (k .1) r
+repeat-is-told (some q) l p c k r = ap (isLast p) r
+
+both : (t u : Bool) → (t && u) ≡ true → (t ≡ true) × (u ≡ true)
+both true true e = (refl, refl)
+both true false e = absurd (true≢false (sym e))
+both false u e = absurd (true≢false (sym e))
+
+pub same-itself : (p : Pair) → samePair p p ≡ true
+same-itself p = rw (eq-eqb (p .0) (p .0) refl, eq-eqb (p .1) (p .1) refl)
+
+pub same-is-equal : (p q : Pair) → samePair p q ≡ true → p ≡ q
+same-is-equal p q e =
+    let b = both (eqb (p .0) (q .0)) (eqb (p .1) (q .1)) e in
+    ap₂ pair (eqb-true (p .0) (q .0) (b .0)) (eqb-true (p .1) (q .1) (b .1))
+
+-- an answer heard in front of both, and one in front of what arrived that says nothing
+events-behind : (o : Outcome (Option Cea608)) (xs ys : List (Outcome (Option Cea608))) → events xs ≡ events ys → events (o ∷ xs) ≡ events (o ∷ ys)
+events-behind (answer none) xs ys e = e
+events-behind (answer (some x)) xs ys e = ap (λ (l : List Cea608). x ∷ l) e
+events-behind (refused n) xs ys e = e
+
+heard-in-front : (s t s′ t′ : Cea608State) (o : Outcome (Option Cea608)) (q p : Pair) (qs ps : List Pair) → step s q ≡ (o, s′) → once t p ≡ (o, t′) → Agrees s′ t′ qs ps → Agrees s t (q ∷ qs) (p ∷ ps)
+heard-in-front s t s′ t′ o q p qs ps one other a = record {
+  same-events = rw (one, other) (events-behind o (answers s′ qs) (readOnce t′ ps) (a .same-events));
+  ends-same = rw (one, other) (a .ends-same);
+}
+
+silent-in-front : (s t s′ : Cea608State) (q : Pair) (qs ps : List Pair) → step s q ≡ (answer none, s′) → Agrees s′ t qs ps → Agrees s t (q ∷ qs) ps
+silent-in-front s t s′ q qs ps one a = record { same-events = rw one (a .same-events); ends-same = rw one (a .ends-same) }
+
+hit-in-front : (s t : Cea608State) (q : Pair) (qs ps : List Pair) → isOddPair q ≡ false → Agrees s t qs ps → Agrees s t (q ∷ qs) ps
+hit-in-front s t q qs ps even a =
+    let one = even-is-refused-1 s q even in
+    record { same-events = rw one (a .same-events); ends-same = rw one (a .ends-same) }
+
+-- the rest of the pairs is heard alike, from wherever the line and the receiver stand
+abbrev Continues : List Pair → Type 0
+Continues ps =
+    (h : Option Pair) (qs : List Pair) (s t : Cea608State) → Line h (doubled ps) qs → Ready h (s .«last_data») → Same s t → Agrees s t qs ps
+
+module _ (p : Pair) (ps : List Pair) (odd : isOddPair p ≡ true) (go : Continues ps) where
+  parity : (isOdd (p .0) ≡ true) × (isOdd (p .1) ≡ true)
+  parity = both (isOdd (p .0)) (isOdd (p .1)) odd
+
+  -- text arrives as it was sent, and is heard by both
+  text-heard : (h : Option Pair) (qs : List Pair) (s t : Cea608State) → isCommandPair p ≡ false → Line h (p ∷ doubled ps) qs → Same s t → Agrees s t qs (p ∷ ps)
+  text-heard h qs s t is (line.command-arrives c rest) same = absurd (true≢false (sym c ∙ is))
+  text-heard h qs s t is (line.command-is-spoiled c w even rest) same = absurd (true≢false (sym c ∙ is))
+  text-heard h qs s t is (line.text-arrives {qs = qs′} e rest) same =
+      let x = single (stripped (p .0)) in
+      let y = single (stripped (p .1)) in
+      let told : once t p ≡ (heardText s p x y .0, heardText t p x y .1) =
+        text-once t p (parity .0) (parity .1) is
+        ∙ ap {B = Outcome (Option Cea608) × Cea608State} (λ (ch : LastChannel). (answer (textFor ch x y), heardText t p x y .1)) (sym (same .channel)) in
+      heard-in-front s t _ _ _ p p qs′ ps (text-is-never-skipped s p (parity .0) (parity .1) is) told
+      (go none qs′ _ _ rest is (record { channel = same .channel; field = same .field }))
+
+  abbrev said : ControlCode
+  said = commandOf (stripped (p .0)) (stripped (p .1))
+
+  is-command : isCommandPair p ≡ true → IsCommand p said
+  is-command is = (code.Nul, read-as-command (p .0) (p .1) (parity .0) (parity .1) is)
+
+  -- the state that a skipped repeat leaves
+  abbrev skipped : Cea608State → Cea608State
+  skipped s = state last.Absent (s .«last_channel») (s .«last_received_field»)
+
+  -- a command that acts for both leaves the same channel and field
+  acted-same : (s t : Cea608State) → Same s t → Same (acts s p said .1) (acts t p said .1)
+  acted-same s t same = record { channel = refl; field = ap (fieldAfter (said .field)) (same .field) }
+
+  -- a copy that acts, where the stretch has had no hit; and what is left of the line then is heard
+  acts-heard : (s t : Cea608State) (qs : List Pair) → isCommandPair p ≡ true → isLast p (s .«last_data») ≡ false → Agrees (acts s p said .1) (acts t p said .1) qs ps → Agrees s t (p ∷ qs) (p ∷ ps)
+  acts-heard s t qs is other a =
+      heard-in-front s t _ _ (acts s p said .0) p p qs ps (command-acts s p said (is-command is) other)
+      (command-once t p said (is-command is)) a
+
+  -- behind a first copy that acted: its repeat is skipped, or spoiled
+  second-after-acting : (s t : Cea608State) (qs : List Pair) → isCommandPair p ≡ true → Same s t → s .«last_data» ≡ last.Was p → Line none (p ∷ doubled ps) qs → Agrees s t qs ps
+  second-after-acting s t qs is same holds (line.text-arrives e rest) = absurd (true≢false (sym is ∙ e))
+  second-after-acting s t qs is same holds (line.command-arrives {qs = qs′} c rest) =
+      silent-in-front s t (skipped s) p qs′ ps
+      (repeat-is-skipped s p said (is-command is) (ap (isLast p) holds ∙ last-is-last p))
+      (go none qs′ (skipped s) t rest refl (record { channel = same .channel; field = same .field }))
+  second-after-acting s t qs is same holds (line.command-is-spoiled {q = q} {qs = qs′} c w even rest) =
+      hit-in-front s t q qs′ ps even (go (some p) qs′ s t rest holds same)
+
+  -- behind a first copy that was spoiled or skipped: the second arrives, and acts
+  second-acts : (h : Option Pair) (s t : Cea608State) (qs : List Pair) → isCommandPair p ≡ true → Same s t → wasSpoiled h p ≡ true → isLast p (s .«last_data») ≡ false → Line h (p ∷ doubled ps) qs → Agrees s t qs (p ∷ ps)
+  second-acts h s t qs is same hit other (line.text-arrives e rest) = absurd (true≢false (sym is ∙ e))
+  second-acts h s t qs is same hit other (line.command-is-spoiled c w even rest) = absurd (true≢false (sym hit ∙ w))
+  second-acts none s t qs is same hit other (line.command-arrives c rest) = absurd (true≢false (sym hit))
+  second-acts (some q) s t qs is same hit other (line.command-arrives {qs = qs′} c rest) =
+      let on = subst (λ (b : Bool). Line (cond b (some q) none) (doubled ps) qs′) hit rest in
+      acts-heard s t qs′ is other
+      (go (some q) qs′ _ _ on (ap last.Was (sym (same-is-equal q p hit))) (acted-same s t same))
+
+  -- the two copies of a command
+  command-heard : (h : Option Pair) (qs : List Pair) (s t : Cea608State) (hit : Bool) → wasSpoiled h p ≡ hit → isCommandPair p ≡ true → Line h (p ∷ p ∷ doubled ps) qs → Ready h (s .«last_data») → Same s t → Agrees s t qs (p ∷ ps)
+  command-heard h qs s t hit w is (line.text-arrives e rest) ready same = absurd (true≢false (sym is ∙ e))
+  command-heard h qs s t false w is (line.command-arrives {qs = qs′} c rest) ready same =
+      let first = subst (λ (b : Bool). Line (cond b h none) (p ∷ doubled ps) qs′) w rest in
+      let other = repeat-is-told h (s .«last_data») p said (is-command is) ready ∙ w in
+      acts-heard s t qs′ is other (second-after-acting _ _ qs′ is (acted-same s t same) refl first)
+  command-heard h qs s t true w is (line.command-arrives {qs = qs′} c rest) ready same =
+      let on = subst (λ (b : Bool). Line (cond b h none) (p ∷ doubled ps) qs′) w rest in
+      let again = repeat-is-told h (s .«last_data») p said (is-command is) ready ∙ w in
+      silent-in-front s t (skipped s) p qs′ (p ∷ ps) (repeat-is-skipped s p said (is-command is) again)
+      (second-acts h (skipped s) t qs′ is (record { channel = same .channel; field = same .field }) w refl on)
+  command-heard h qs s t hit w is (line.command-is-spoiled {q = q} {qs = qs′} c fine even rest) ready same =
+      let other = repeat-is-told h (s .«last_data») p said (is-command is) ready ∙ fine in
+      hit-in-front s t q qs′ (p ∷ ps) even (second-acts (some p) s t qs′ is same (same-itself p) other rest)
+
+  pair-heard : (t : Bool) → isCommandPair p ≡ t → Continues (p ∷ ps)
+  pair-heard true is h qs s t line ready same =
+      let twice = subst (λ (b : Bool). Line h (cond b (p ∷ p ∷ doubled ps) (p ∷ doubled ps)) qs) is line in
+      command-heard h qs s t (wasSpoiled h p) refl is twice ready same
+  pair-heard false is h qs s t line ready same =
+      let single = subst (λ (b : Bool). Line h (cond b (p ∷ p ∷ doubled ps) (p ∷ doubled ps)) qs) is line in
+      text-heard h qs s t is single same
+
+nothing-heard : (h : Option Pair) (qs : List Pair) (s t : Cea608State) → Line h [] qs → Same s t → Agrees s t qs []
+nothing-heard h qs s t line.ends same = record { same-events = refl; ends-same = same }
+
+pub doubled-is-heard-once : (ps : List Pair) → AllOdd ps → Continues ps
+doubled-is-heard-once [] odd h qs s t line ready same = nothing-heard h qs s t line same
+doubled-is-heard-once (p ∷ ps) odd h qs s t line ready same =
+    pair-heard p ps (odd .0) (doubled-is-heard-once ps (odd .1)) (isCommandPair p) refl h qs s t line ready same

@@ -1,0 +1,106 @@
+-- The agreement: demand 3 of the customer's letter, its sentences in their order. `DemandThree` at the end is the demand;
+-- `agreement` in proofs/Agreement.antt proves it. Every call in it is the definition to which a promise binds the code.
+use Prim.Native.Nat.{ℕ}
+use mathlib.Core.Bool.{Bool, true, false, cond, _&&_}
+use mathlib.Core.List.{List, [], _∷_, _++_, map}
+use mathlib.Core.Option.{Option, none, some}
+use mathlib.Core.Path.{_≡_}
+use lib.Dec.{eqb}
+use Rattle.code.specs.Outcome.{Outcome, answer, refused}
+use Rattle.code.specs.Parity.{isOdd}
+use Rattle.code.specs.declared.code.Code.{Code}
+use Rattle.code.specs.declared.pair.Pair.{Pair}
+use Rattle.event.specs.declared.event.Cea608.{Cea608}
+use Rattle.queue.specs.Ring.{popRing}
+use Rattle.queue.specs.declared.ring.Queue.{Queue}
+use Rattle.receiver.specs.Reading.{after, afterOnce, answers, events, readOnce}
+use Rattle.receiver.specs.Receiver.{fresh}
+use Rattle.sender.specs.Sender.{freshSender, owedIn, pushSender, sendSender, view}
+use Rattle.sender.specs.Sending.{isCommandPair, isIdle}
+use Rattle.sender.specs.declared.sender.Sender.{Sender}
+
+-- "Start with a fresh sender and a fresh receiver, never reset. Queue and send in any order, until nothing is queued and
+-- no repeat is owed." A push that is refused is an act too, and so is one of NUL, and a send with nothing to say.
+pub data Act : Type 0 where
+  queueing : Code → Act
+  sending : Act
+
+abbrev pub acted : Act → Sender → Sender
+acted (queueing c) s = pushSender s c .1
+acted sending s = sendSender s .1
+
+abbrev pub afterActs : List Act → Sender → Sender
+afterActs [] s = s
+afterActs (a ∷ acts) s = afterActs acts (acted a s)
+
+abbrev pub EndsIdle : List Act → Type 0
+EndsIdle acts = isIdle (view (afterActs acts freshSender)) ≡ true
+
+-- the pairs that go onto the line
+abbrev pub given : Outcome Pair → List Pair
+given (answer p) = p ∷ []
+given (refused n) = []
+
+abbrev pub sentIn : Act → Sender → List Pair
+sentIn (queueing c) s = []
+sentIn sending s = given (sendSender s .0)
+
+abbrev pub sentBy : List Act → Sender → List Pair
+sentBy [] s = []
+sentBy (a ∷ acts) s = sentIn a s ++ sentBy acts (acted a s)
+
+-- the queue's pairs: those that it gave, where no repeat was owed
+abbrev pub popped : Option Pair → Queue → List Pair
+popped (some p) q = []
+popped none q = given (popRing q .0)
+
+abbrev pub poppedIn : Act → Sender → List Pair
+poppedIn (queueing c) s = []
+poppedIn sending s = popped (owedIn (s .owed)) (s .queue)
+
+abbrev pub queuePairs : List Act → Sender → List Pair
+queuePairs [] s = []
+queuePairs (a ∷ acts) s = poppedIn a s ++ queuePairs acts (acted a s)
+
+-- "The line may spoil pairs so that parity shows it: no pair that is not a command, and at most one copy in each unbroken
+-- stretch of one command pair." What was sent, and what arrived, pair by pair. Beside them the command pair of which a
+-- copy was spoiled in the stretch so far, if one was: the stretch goes on as long as that pair is sent.
+abbrev pub samePair : Pair → Pair → Bool
+samePair p q = eqb (p .0) (q .0) && eqb (p .1) (q .1)
+
+abbrev pub isOddPair : Pair → Bool
+isOddPair p = isOdd (p .0) && isOdd (p .1)
+
+abbrev pub wasSpoiled : Option Pair → Pair → Bool
+wasSpoiled none p = false
+wasSpoiled (some q) p = samePair q p
+
+abbrev pub goesOn : Option Pair → Pair → Option Pair
+goesOn h p = cond (wasSpoiled h p) h none
+
+pub data Line : Option Pair → List Pair → List Pair → Type 0 where
+  ends : {h : Option Pair} → Line h [] []
+  text-arrives : {h : Option Pair} {p : Pair} {ps qs : List Pair} → isCommandPair p ≡ false → Line none ps qs → Line h (p ∷ ps) (p ∷ qs)
+  command-arrives : {h : Option Pair} {p : Pair} {ps qs : List Pair} → isCommandPair p ≡ true → Line (goesOn h p) ps qs → Line h (p ∷ ps) (p ∷ qs)
+  command-is-spoiled : {h : Option Pair} {p q : Pair} {ps qs : List Pair} → isCommandPair p ≡ true → wasSpoiled h p ≡ false → isOddPair q ≡ false → Line (some p) ps qs → Line h (p ∷ ps) (q ∷ qs)
+
+-- where a pair arrived as another: 1, else 0; and the number by which a pair was refused, else 0
+abbrev pub spoiledPlaces : List Pair → List Pair → List ℕ
+spoiledPlaces (p ∷ ps) (q ∷ qs) = cond (samePair p q) 0 1 ∷ spoiledPlaces ps qs
+spoiledPlaces [] qs = []
+spoiledPlaces (p ∷ ps) [] = []
+
+abbrev pub refusal : Outcome (Option Cea608) → ℕ
+refusal (answer e) = 0
+refusal (refused n) = n
+
+-- "Then the receiver reports, in order, the events that the queue's pairs give when each is read once with no test for
+-- repeats, ends with the same channel and field, and refuses the spoiled pairs and no others."
+pub record Agreement (acts : List Act) (arrived : List Pair) : Type 0 where
+  pub same-events : events (answers fresh arrived) ≡ events (readOnce fresh (queuePairs acts freshSender))
+  pub same-channel : after fresh arrived .«last_channel» ≡ afterOnce fresh (queuePairs acts freshSender) .«last_channel»
+  pub same-field : after fresh arrived .«last_received_field» ≡ afterOnce fresh (queuePairs acts freshSender) .«last_received_field»
+  pub refuses-the-spoiled : map refusal (answers fresh arrived) ≡ spoiledPlaces (sentBy acts freshSender) arrived
+
+abbrev pub DemandThree : Type 0
+DemandThree = (acts : List Act) (arrived : List Pair) → EndsIdle acts → Line none (sentBy acts freshSender) arrived → Agreement acts arrived
