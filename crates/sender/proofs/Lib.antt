@@ -1,1 +1,4 @@
+pub mod NextPair
+pub mod NothingLeft
+pub mod OwedFits
 pub mod Refines
