@@ -1,1 +1,5 @@
 pub mod Heard
+pub mod NextPair
+pub mod NothingLeft
+pub mod OwedFits
+pub mod Refines

@@ -4,3 +4,4 @@ pub mod Drain
 pub mod Next
 pub mod Doubled
 pub mod Agreement
+pub mod Good
