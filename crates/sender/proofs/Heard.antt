@@ -28,14 +28,10 @@ use Rattle.receiver.specs.declared.state.Cea608State.{Cea608State}
 use Rattle.receiver.specs.declared.state.LastChannel.{LastChannel}
 use Rattle.receiver.specs.declared.state.LastPair.{LastPair}
 use Rattle.receiver.specs.declared.state.LastPair.the-variants as last
-use Rattle.sender.specs.Agreement.{Line, goesOn, isOddPair, samePair, wasSpoiled}
+use Rattle.sender.specs.Agreement.{AllOdd, Line, isOddPair, samePair, wasSpoiled}
 use Rattle.sender.specs.Agreement as line
 use Rattle.sender.specs.Doubled.{doubled}
 use Rattle.sender.specs.Sending.{isCommandPair}
-
-abbrev pub AllOdd : List Pair → Type 0
-AllOdd [] = Unit
-AllOdd (p ∷ ps) = (isOddPair p ≡ true) × AllOdd ps
 
 -- two states with the same channel and field, whatever their last pairs
 pub record Same (s t : Cea608State) : Type 0 where
@@ -107,8 +103,8 @@ module _ (p : Pair) (ps : List Pair) (odd : isOddPair p ≡ true) (go : Continue
       let x = single (stripped (p .0)) in
       let y = single (stripped (p .1)) in
       let told : once t p ≡ (heardText s p x y .0, heardText t p x y .1) =
-        text-once t p (parity .0) (parity .1) is
-        ∙ ap {B = Outcome (Option Cea608) × Cea608State} (λ (ch : LastChannel). (answer (textFor ch x y), heardText t p x y .1)) (sym (same .channel)) in
+      text-once t p (parity .0) (parity .1) is
+      ∙ ap {B = Outcome (Option Cea608) × Cea608State} (λ (ch : LastChannel). (answer (textFor ch x y), heardText t p x y .1)) (sym (same .channel)) in
       heard-in-front s t _ _ _ p p qs′ ps (text-is-never-skipped s p (parity .0) (parity .1) is) told
       (go none qs′ _ _ rest is (record { channel = same .channel; field = same .field }))
 

@@ -71,6 +71,10 @@ samePair p q = eqb (p .0) (q .0) && eqb (p .1) (q .1)
 abbrev pub isOddPair : Pair → Bool
 isOddPair p = isOdd (p .0) && isOdd (p .1)
 
+abbrev pub AllOdd : List Pair → Type 0
+AllOdd [] = Unit
+AllOdd (p ∷ ps) = (isOddPair p ≡ true) × AllOdd ps
+
 abbrev pub wasSpoiled : Option Pair → Pair → Bool
 wasSpoiled none p = false
 wasSpoiled (some q) p = samePair q p

@@ -1,0 +1,48 @@
+-- The agreement, demand 3, for every list of acts and every line that the letter allows. What is sent is the queue's pairs
+-- doubled (`Doubled`); of pairs sent doubled over such a line a set hears each once (`Heard`); and it refuses what the
+-- line spoiled (`Refused`).
+-- Assumes nothing.
+use mathlib.Core.Bool.{true, true≢false}
+use mathlib.Core.List.{List, [], _++_, append-nil}
+use mathlib.Core.Option.{Option, none, some}
+use mathlib.Core.Path.{_≡_, refl, ap, sym, subst, _∙_}
+use lib.Dec.{eqb}
+use Rattle.code.specs.declared.pair.Pair.{Pair}
+use Rattle.queue.proofs.WellFormed.{both-right}
+use Rattle.queue.specs.Queue.{count}
+use Rattle.receiver.specs.Receiver.{fresh}
+use Rattle.sender.proofs.Doubled.{doubled-is-odd, queue-pairs-are-odd, sent-is-doubled}
+use Rattle.sender.proofs.Heard.{doubled-is-heard-once}
+use Rattle.sender.proofs.Refines.{fresh-good}
+use Rattle.sender.proofs.Refused.{the-spoiled-are-refused}
+use Rattle.sender.specs.Agreement.{Act, Agreement, AllOdd, DemandThree, EndsIdle, Line, afterActs, queuePairs, sentBy}
+use Rattle.sender.specs.Doubled.{doubled, stillOwed}
+use Rattle.sender.specs.Sender.{freshSender, owedIn, view}
+use Rattle.sender.specs.Sending.{noneOwed}
+
+nothing-owed : (o : Option Pair) → noneOwed o ≡ true → stillOwed o ≡ []
+nothing-owed none e = refl
+nothing-owed (some p) e = absurd (true≢false (sym e))
+
+-- once idle, what was sent is the queue's pairs doubled
+pub sent-once-idle : (acts : List Act) → EndsIdle acts → sentBy acts freshSender ≡ doubled (queuePairs acts freshSender)
+sent-once-idle acts idle =
+    let end = view (afterActs acts freshSender) in
+    let none-left = nothing-owed (end .owed) (both-right (eqb (count (end .queue)) 0) (noneOwed (end .owed)) idle) in
+    sym (append-nil (sentBy acts freshSender))
+    ∙ ap (λ (l : List Pair). sentBy acts freshSender ++ l) (sym none-left)
+    ∙ sent-is-doubled acts freshSender fresh-good
+
+pub agreement : DemandThree
+agreement acts arrived idle line =
+    let ps = queuePairs acts freshSender in
+    let odd = queue-pairs-are-odd acts freshSender fresh-good in
+    let sent = sent-once-idle acts idle in
+    let heard = doubled-is-heard-once ps odd none arrived fresh fresh
+    (subst (λ (l : List Pair). Line none l arrived) sent line) refl (record { channel = refl; field = refl }) in
+    record {
+      same-events = heard .same-events;
+      same-channel = heard .ends-same .channel;
+      same-field = heard .ends-same .field;
+      refuses-the-spoiled = the-spoiled-are-refused none (sentBy acts freshSender) arrived fresh (subst AllOdd (sym sent) (doubled-is-odd ps odd)) line;
+    }

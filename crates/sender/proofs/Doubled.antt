@@ -1,0 +1,86 @@
+-- What is sent: the queue's pairs in order, each text pair once and each command pair twice in a row, but for a repeat
+-- that is still owed. And every pair of the queue has odd parity.
+-- Assumes nothing.
+use mathlib.Core.Bool.{Bool, true, false, cond, _&&_}
+use mathlib.Core.List.{List, [], _∷_, _++_, append-assoc, append-nil}
+use mathlib.Core.Option.{Option, none, some}
+use mathlib.Core.Path.{_≡_, refl, ap, ap₂, sym, subst, _∙_}
+use Rattle.code.proofs.Written.{SentPair}
+use Rattle.code.specs.Outcome.{Outcome, answer, refused}
+use Rattle.code.specs.declared.code.Code.{Code}
+use Rattle.code.specs.declared.pair.Pair.{Pair}
+use Rattle.queue.proofs.Pairs.{popped-is-sent}
+use Rattle.queue.proofs.Refines.{good-fits}
+use Rattle.queue.specs.Queue.{pop}
+use Rattle.queue.specs.Ring.{popRing}
+use Rattle.queue.specs.Ring as queue
+use Rattle.queue.specs.declared.ring.Queue.{Queue}
+use Rattle.sender.proofs.Refines.{push-good, pushed-as, queue-formed, send-good, send-refines}
+use Rattle.sender.specs.Agreement.{Act, queueing, sending, AllOdd, acted, afterActs, given, isOddPair, popped, poppedIn, queuePairs, sentBy, sentIn}
+use Rattle.sender.specs.Doubled.{doubled, stillOwed}
+use Rattle.sender.specs.Good.{Good}
+use Rattle.sender.specs.Sender.{owedIn, pushSender, sendSender, view}
+use Rattle.sender.specs.Sending.{Sending, isCommandPair, repeatOf, send, sendOwed}
+use Rattle.sender.specs.declared.sender.Owed.{Owed}
+use Rattle.sender.specs.declared.sender.Sender.{Sender}
+
+-- a well-formed queue gives its pair
+popped-as : (q : Queue) → queue.wellFormed q ≡ true → popRing q .0 ≡ answer (pop (queue.view q) .pair)
+unfolding popRing
+popped-as q e = rw e refl
+
+-- a pair of the queue, and what is owed of it
+twice : (p : Pair) (ps : List Pair) (t : Bool) → isCommandPair p ≡ t → p ∷ (stillOwed (repeatOf p) ++ doubled ps) ≡ doubled (p ∷ ps)
+twice p ps true e = rw e refl
+twice p ps false e = rw e refl
+
+-- one send in front of what is sent later
+one-send : (o : Option Pair) (q : Queue) (later ps : List Pair) → queue.wellFormed q ≡ true → later ≡ stillOwed (sendOwed o (queue.view q) .next .owed) ++ doubled ps → sendOwed o (queue.view q) .pair ∷ later ≡ stillOwed o ++ doubled (popped o q ++ ps)
+one-send (some p) q later ps formed e = ap (λ (l : List Pair). p ∷ l) e
+one-send none q later ps formed e =
+    let p = pop (queue.view q) .pair in
+    ap (λ (l : List Pair). p ∷ l) e
+    ∙ twice p ps (isCommandPair p) refl
+    ∙ ap (λ (o : Outcome Pair). doubled (given o ++ ps)) (sym (popped-as q formed))
+
+-- in any run of acts: what is sent, then what is still owed, is what was owed, then the queue's pairs doubled
+pub sent-is-doubled : (acts : List Act) (s : Sender) → Good s → sentBy acts s ++ stillOwed (owedIn (afterActs acts s .owed)) ≡ stillOwed (owedIn (s .owed)) ++ doubled (queuePairs acts s)
+unfolding send
+sent-is-doubled [] s g = sym (append-nil (stillOwed (owedIn (s .owed))))
+sent-is-doubled (queueing c ∷ acts) s g =
+    sent-is-doubled acts (pushSender s c .1) (push-good s c g)
+    ∙ ap (λ (o : Owed). stillOwed (owedIn o) ++ doubled (queuePairs acts (pushSender s c .1))) (ap (λ (r : Outcome Unit × Sender). r .1 .owed) (pushed-as s c (g .formed)))
+sent-is-doubled (sending ∷ acts) s g =
+    let next = sendSender s .1 in
+    let told = send-refines s g in
+    let later = sentBy acts next ++ stillOwed (owedIn (afterActs acts next .owed)) in
+    append-assoc (given (sendSender s .0)) (sentBy acts next) (stillOwed (owedIn (afterActs acts next .owed)))
+    ∙ ap (λ (o : Outcome Pair). given o ++ later) (told .0)
+    ∙ one-send (owedIn (s .owed)) (s .queue) later (queuePairs acts next) (queue-formed s (g .formed))
+    (sent-is-doubled acts next (send-good s g)
+    ∙ ap (λ (v : Sending). stillOwed (v .owed) ++ doubled (queuePairs acts next)) (told .1))
+
+-- every pair of the queue has odd parity, and so has every pair that is sent
+sent-is-odd : (p : Pair) → SentPair p → isOddPair p ≡ true
+sent-is-odd p s = rw (s .first .odd, s .second .odd) refl
+
+popped-odd : (o : Option Pair) (q : Queue) (ps : List Pair) → queue.wellFormed q ≡ true → AllOdd ps → AllOdd (popped o q ++ ps)
+popped-odd (some p) q ps formed all = all
+popped-odd none q ps formed all =
+    subst (λ (o : Outcome Pair). AllOdd (given o ++ ps)) (sym (popped-as q formed))
+    (sent-is-odd (pop (queue.view q) .pair) (popped-is-sent (queue.view q) (good-fits q formed)), all)
+
+pub queue-pairs-are-odd : (acts : List Act) (s : Sender) → Good s → AllOdd (queuePairs acts s)
+queue-pairs-are-odd [] s g = tt
+queue-pairs-are-odd (queueing c ∷ acts) s g = queue-pairs-are-odd acts (pushSender s c .1) (push-good s c g)
+queue-pairs-are-odd (sending ∷ acts) s g =
+    popped-odd (owedIn (s .owed)) (s .queue) (queuePairs acts (sendSender s .1)) (queue-formed s (g .formed))
+    (queue-pairs-are-odd acts (sendSender s .1) (send-good s g))
+
+doubled-odd : (p : Pair) (ps : List Pair) (t : Bool) → isOddPair p ≡ true → AllOdd ps → AllOdd (cond t (p ∷ p ∷ ps) (p ∷ ps))
+doubled-odd p ps true odd all = (odd, (odd, all))
+doubled-odd p ps false odd all = (odd, all)
+
+pub doubled-is-odd : (ps : List Pair) → AllOdd ps → AllOdd (doubled ps)
+doubled-is-odd [] all = tt
+doubled-is-odd (p ∷ ps) all = doubled-odd p (doubled ps) (isCommandPair p) (all .0) (doubled-is-odd ps (all .1))

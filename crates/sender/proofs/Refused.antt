@@ -1,0 +1,44 @@
+-- The set refuses what the line spoiled, by number 1, and nothing else.
+-- Assumes nothing.
+use mathlib.Core.Bool.{Bool, true, false, cond, true≢false}
+use mathlib.Core.List.{List, [], _∷_, map}
+use mathlib.Core.Option.{Option}
+use mathlib.Core.Path.{_≡_, refl, ap, ap₂, sym, _∙_}
+use Prim.Native.Nat.{ℕ}
+use Rattle.code.specs.Outcome.{Outcome, answer, refused}
+use Rattle.code.specs.declared.pair.Pair.{Pair}
+use Rattle.event.specs.declared.event.Cea608.{Cea608}
+use Rattle.receiver.proofs.Step.{even-is-refused-1, odd-is-not-refused}
+use Rattle.receiver.specs.Reading.{answers}
+use Rattle.receiver.specs.Receiver.{step}
+use Rattle.receiver.specs.declared.state.Cea608State.{Cea608State}
+use Rattle.sender.proofs.Heard.{same-is-equal, same-itself}
+use Rattle.sender.specs.Agreement.{AllOdd, Line, isOddPair, refusal, samePair, spoiledPlaces}
+use Rattle.sender.specs.Agreement as line
+
+heard : (o : Outcome (Option Cea608)) → ((n : ℕ) → o ≡ refused n → ⊥) → refusal o ≡ 0
+heard (answer e) h = refl
+heard (refused n) h = absurd (h n refl)
+
+-- a pair that arrives as it was sent is not refused
+arrived : (s : Cea608State) (p : Pair) → isOddPair p ≡ true → refusal (step s p .0) ≡ cond (samePair p p) 0 1
+arrived s p odd =
+    heard (step s p .0) (λ (n : ℕ) (e : step s p .0 ≡ refused n). odd-is-not-refused s p n odd e)
+    ∙ sym (ap (λ (t : Bool). cond t 0 1) (same-itself p))
+
+-- and one that parity shows is another than was sent, and is refused
+no-other : (p q : Pair) (t : Bool) → samePair p q ≡ t → isOddPair p ≡ true → isOddPair q ≡ false → t ≡ false
+no-other p q false e odd even = refl
+no-other p q true e odd even = absurd (true≢false (sym odd ∙ ap isOddPair (same-is-equal p q e) ∙ even))
+
+hit : (s : Cea608State) (p q : Pair) → isOddPair p ≡ true → isOddPair q ≡ false → refusal (step s q .0) ≡ cond (samePair p q) 0 1
+hit s p q odd even = rw (even-is-refused-1 s q even, no-other p q (samePair p q) refl odd even) refl
+
+pub the-spoiled-are-refused : (h : Option Pair) (ps qs : List Pair) (s : Cea608State) → AllOdd ps → Line h ps qs → map refusal (answers s qs) ≡ spoiledPlaces ps qs
+the-spoiled-are-refused h ps qs s all line.ends = refl
+the-spoiled-are-refused h ps qs s all (line.text-arrives {p = p} {ps = ps′} {qs = qs′} e rest) =
+    ap₂ _∷_ (arrived s p (all .0)) (the-spoiled-are-refused _ ps′ qs′ (step s p .1) (all .1) rest)
+the-spoiled-are-refused h ps qs s all (line.command-arrives {p = p} {ps = ps′} {qs = qs′} e rest) =
+    ap₂ _∷_ (arrived s p (all .0)) (the-spoiled-are-refused _ ps′ qs′ (step s p .1) (all .1) rest)
+the-spoiled-are-refused h ps qs s all (line.command-is-spoiled {p = p} {q = q} {ps = ps′} {qs = qs′} e w even rest) =
+    ap₂ _∷_ (hit s p q (all .0) even) (the-spoiled-are-refused _ ps′ qs′ (step s q .1) (all .1) rest)
