@@ -1,8 +1,10 @@
 pub mod Agreement
 pub mod Doubled
 pub mod Heard
+pub mod SendsLeft
 pub mod NextPair
 pub mod NothingLeft
+pub mod Order
 pub mod OwedFits
 pub mod Refines
 pub mod Refused

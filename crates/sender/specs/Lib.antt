@@ -3,5 +3,7 @@ pub mod Sender
 pub mod Drain
 pub mod Next
 pub mod Doubled
+pub mod SendsLeft
+pub mod Calls
 pub mod Agreement
 pub mod Good
