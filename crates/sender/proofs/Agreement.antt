@@ -13,10 +13,12 @@ use Rattle.queue.specs.Queue.{count}
 use Rattle.receiver.specs.Receiver.{fresh}
 use Rattle.sender.proofs.Doubled.{doubled-is-odd, queue-pairs-are-odd, sent-is-doubled}
 use Rattle.sender.proofs.Heard.{doubled-is-heard-once}
+use Rattle.sender.proofs.OneByOne.{line-one-by-one}
 use Rattle.sender.proofs.Refines.{fresh-good}
 use Rattle.sender.proofs.Refused.{the-spoiled-are-refused}
-use Rattle.sender.specs.Agreement.{Act, Agreement, AllOdd, DemandThree, EndsIdle, Line, afterActs, queuePairs, sentBy}
+use Rattle.sender.specs.Agreement.{Act, Agreement, DemandThree, EndsIdle, Line, afterActs, queuePairs, sentBy}
 use Rattle.sender.specs.Doubled.{doubled, stillOwed}
+use Rattle.sender.specs.OneByOne.{AllOdd, OneByOne}
 use Rattle.sender.specs.Sender.{freshSender, owedIn, view}
 use Rattle.sender.specs.Sending.{noneOwed}
 
@@ -38,11 +40,13 @@ agreement acts arrived idle line =
     let ps = queuePairs acts freshSender in
     let odd = queue-pairs-are-odd acts freshSender fresh-good in
     let sent = sent-once-idle acts idle in
+    let sent-odd = subst AllOdd (sym sent) (doubled-is-odd ps odd) in
+    let passed = line-one-by-one (sentBy acts freshSender) arrived sent-odd line in
     let heard = doubled-is-heard-once ps odd none arrived fresh fresh
-    (subst (λ (l : List Pair). Line none l arrived) sent line) refl (record { channel = refl; field = refl }) in
+    (subst (λ (l : List Pair). OneByOne none l arrived) sent passed) refl (record { channel = refl; field = refl }) in
     record {
       same-events = heard .same-events;
       same-channel = heard .ends-same .channel;
       same-field = heard .ends-same .field;
-      refuses-the-spoiled = the-spoiled-are-refused none (sentBy acts freshSender) arrived fresh (subst AllOdd (sym sent) (doubled-is-odd ps odd)) line;
+      refuses-the-spoiled = the-spoiled-are-refused (sentBy acts freshSender) arrived fresh sent-odd (line .pairs);
     }

@@ -16,9 +16,10 @@ use Rattle.queue.specs.Ring.{popRing}
 use Rattle.queue.specs.Ring as queue
 use Rattle.queue.specs.declared.ring.Queue.{Queue}
 use Rattle.sender.proofs.Refines.{push-good, pushed-as, queue-formed, send-good, send-refines}
-use Rattle.sender.specs.Agreement.{Act, queueing, sending, AllOdd, acted, afterActs, given, isOddPair, popped, poppedIn, queuePairs, sentBy, sentIn}
+use Rattle.sender.specs.Agreement.{Act, queueing, sending, acted, afterActs, given, isOddPair, popped, poppedIn, queuePairs, sentBy, sentIn}
 use Rattle.sender.specs.Doubled.{doubled, stillOwed}
 use Rattle.sender.specs.Good.{Good}
+use Rattle.sender.specs.OneByOne.{AllOdd}
 use Rattle.sender.specs.Sender.{owedIn, pushSender, sendSender, view}
 use Rattle.sender.specs.Sending.{Sending, isCommandPair, repeatOf, send, sendOwed}
 use Rattle.sender.specs.declared.sender.Owed.{Owed}

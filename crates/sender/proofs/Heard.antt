@@ -6,14 +6,10 @@ use mathlib.Core.Bool.{Bool, true, false, cond, _&&_, true≢false}
 use mathlib.Core.List.{List, [], _∷_}
 use mathlib.Core.Option.{Option, none, some}
 use mathlib.Core.Path.{_≡_, refl, ap, ap₂, sym, subst, _∙_}
-use borrow.Author.Tests.{eq-eqb, eqb-true}
-use lib.Dec.{eqb}
-use Prim.Native.Nat.{ℕ}
 use Rattle.code.proofs.Written.{read-as-command}
 use Rattle.code.specs.Outcome.{Outcome, answer, refused}
 use Rattle.code.specs.Parity.{isOdd, stripped}
 use Rattle.code.specs.Read.{commandOf, single}
-use Rattle.code.specs.Write.{pair}
 use Rattle.code.specs.declared.code.Code.the-variants as code
 use Rattle.code.specs.declared.control.ControlCode.{ControlCode}
 use Rattle.code.specs.declared.pair.Pair.{Pair}
@@ -28,9 +24,11 @@ use Rattle.receiver.specs.declared.state.Cea608State.{Cea608State}
 use Rattle.receiver.specs.declared.state.LastChannel.{LastChannel}
 use Rattle.receiver.specs.declared.state.LastPair.{LastPair}
 use Rattle.receiver.specs.declared.state.LastPair.the-variants as last
-use Rattle.sender.specs.Agreement.{AllOdd, Line, isOddPair, samePair, wasSpoiled}
-use Rattle.sender.specs.Agreement as line
+use Rattle.sender.proofs.OneByOne.{both, same-is-equal, same-itself}
+use Rattle.sender.specs.Agreement.{isOddPair}
 use Rattle.sender.specs.Doubled.{doubled}
+use Rattle.sender.specs.OneByOne.{AllOdd, OneByOne, goesOn, wasSpoiled}
+use Rattle.sender.specs.OneByOne as one
 use Rattle.sender.specs.Sending.{isCommandPair}
 
 -- two states with the same channel and field, whatever their last pairs
@@ -52,19 +50,6 @@ Ready (some p) l = l ≡ last.Was p
 repeat-is-told : (h : Option Pair) (l : LastPair) (p : Pair) (c : ControlCode) → IsCommand p c → Ready h l → isLast p l ≡ wasSpoiled h p
 repeat-is-told none l p c k r = quiet-is-no-repeat p c (k .0) l (k .1) r
 repeat-is-told (some q) l p c k r = ap (isLast p) r
-
-both : (t u : Bool) → (t && u) ≡ true → (t ≡ true) × (u ≡ true)
-both true true e = (refl, refl)
-both true false e = absurd (true≢false (sym e))
-both false u e = absurd (true≢false (sym e))
-
-pub same-itself : (p : Pair) → samePair p p ≡ true
-same-itself p = rw (eq-eqb (p .0) (p .0) refl, eq-eqb (p .1) (p .1) refl)
-
-pub same-is-equal : (p q : Pair) → samePair p q ≡ true → p ≡ q
-same-is-equal p q e =
-    let b = both (eqb (p .0) (q .0)) (eqb (p .1) (q .1)) e in
-    ap₂ pair (eqb-true (p .0) (q .0) (b .0)) (eqb-true (p .1) (q .1) (b .1))
 
 -- an answer heard in front of both, and one in front of what arrived that says nothing
 events-behind : (o : Outcome (Option Cea608)) (xs ys : List (Outcome (Option Cea608))) → events xs ≡ events ys → events (o ∷ xs) ≡ events (o ∷ ys)
@@ -89,24 +74,28 @@ hit-in-front s t q qs ps even a =
 -- the rest of the pairs is heard alike, from wherever the line and the receiver stand
 abbrev Continues : List Pair → Type 0
 Continues ps =
-    (h : Option Pair) (qs : List Pair) (s t : Cea608State) → Line h (doubled ps) qs → Ready h (s .«last_data») → Same s t → Agrees s t qs ps
+    (h : Option Pair) (qs : List Pair) (s t : Cea608State) → OneByOne h (doubled ps) qs → Ready h (s .«last_data») → Same s t → Agrees s t qs ps
 
 module _ (p : Pair) (ps : List Pair) (odd : isOddPair p ≡ true) (go : Continues ps) where
   parity : (isOdd (p .0) ≡ true) × (isOdd (p .1) ≡ true)
   parity = both (isOdd (p .0)) (isOdd (p .1)) odd
 
-  -- text arrives as it was sent, and is heard by both
-  text-heard : (h : Option Pair) (qs : List Pair) (s t : Cea608State) → isCommandPair p ≡ false → Line h (p ∷ doubled ps) qs → Same s t → Agrees s t qs (p ∷ ps)
-  text-heard h qs s t is (line.command-arrives c rest) same = absurd (true≢false (sym c ∙ is))
-  text-heard h qs s t is (line.command-is-spoiled c w even rest) same = absurd (true≢false (sym c ∙ is))
-  text-heard h qs s t is (line.text-arrives {qs = qs′} e rest) same =
+  -- text arrives as it was sent, and is heard by both; the receiver holds it then
+  holds-text : (h : Option Pair) (t : Bool) → wasSpoiled h p ≡ t → isCommandPair p ≡ false → Ready (cond t h none) (last.Was p)
+  holds-text h false w is = is
+  holds-text none true w is = absurd (true≢false (sym w))
+  holds-text (some q) true w is = ap last.Was (sym (same-is-equal q p w))
+
+  text-heard : (h : Option Pair) (qs : List Pair) (s t : Cea608State) → isCommandPair p ≡ false → OneByOne h (p ∷ doubled ps) qs → Same s t → Agrees s t qs (p ∷ ps)
+  text-heard h qs s t is (one.is-spoiled c w even rest) same = absurd (true≢false (sym c ∙ is))
+  text-heard h qs s t is (one.arrives {qs = qs′} rest) same =
       let x = single (stripped (p .0)) in
       let y = single (stripped (p .1)) in
       let told : once t p ≡ (heardText s p x y .0, heardText t p x y .1) =
       text-once t p (parity .0) (parity .1) is
       ∙ ap {B = Outcome (Option Cea608) × Cea608State} (λ (ch : LastChannel). (answer (textFor ch x y), heardText t p x y .1)) (sym (same .channel)) in
       heard-in-front s t _ _ _ p p qs′ ps (text-is-never-skipped s p (parity .0) (parity .1) is) told
-      (go none qs′ _ _ rest is (record { channel = same .channel; field = same .field }))
+      (go (goesOn h p) qs′ _ _ rest (holds-text h (wasSpoiled h p) refl is) (record { channel = same .channel; field = same .field }))
 
   abbrev said : ControlCode
   said = commandOf (stripped (p .0)) (stripped (p .1))
@@ -129,53 +118,50 @@ module _ (p : Pair) (ps : List Pair) (odd : isOddPair p ≡ true) (go : Continue
       (command-once t p said (is-command is)) a
 
   -- behind a first copy that acted: its repeat is skipped, or spoiled
-  second-after-acting : (s t : Cea608State) (qs : List Pair) → isCommandPair p ≡ true → Same s t → s .«last_data» ≡ last.Was p → Line none (p ∷ doubled ps) qs → Agrees s t qs ps
-  second-after-acting s t qs is same holds (line.text-arrives e rest) = absurd (true≢false (sym is ∙ e))
-  second-after-acting s t qs is same holds (line.command-arrives {qs = qs′} c rest) =
+  second-after-acting : (s t : Cea608State) (qs : List Pair) → isCommandPair p ≡ true → Same s t → s .«last_data» ≡ last.Was p → OneByOne none (p ∷ doubled ps) qs → Agrees s t qs ps
+  second-after-acting s t qs is same holds (one.arrives {qs = qs′} rest) =
       silent-in-front s t (skipped s) p qs′ ps
       (repeat-is-skipped s p said (is-command is) (ap (isLast p) holds ∙ last-is-last p))
       (go none qs′ (skipped s) t rest refl (record { channel = same .channel; field = same .field }))
-  second-after-acting s t qs is same holds (line.command-is-spoiled {q = q} {qs = qs′} c w even rest) =
+  second-after-acting s t qs is same holds (one.is-spoiled {q = q} {qs = qs′} c w even rest) =
       hit-in-front s t q qs′ ps even (go (some p) qs′ s t rest holds same)
 
   -- behind a first copy that was spoiled or skipped: the second arrives, and acts
-  second-acts : (h : Option Pair) (s t : Cea608State) (qs : List Pair) → isCommandPair p ≡ true → Same s t → wasSpoiled h p ≡ true → isLast p (s .«last_data») ≡ false → Line h (p ∷ doubled ps) qs → Agrees s t qs (p ∷ ps)
-  second-acts h s t qs is same hit other (line.text-arrives e rest) = absurd (true≢false (sym is ∙ e))
-  second-acts h s t qs is same hit other (line.command-is-spoiled c w even rest) = absurd (true≢false (sym hit ∙ w))
-  second-acts none s t qs is same hit other (line.command-arrives c rest) = absurd (true≢false (sym hit))
-  second-acts (some q) s t qs is same hit other (line.command-arrives {qs = qs′} c rest) =
-      let on = subst (λ (b : Bool). Line (cond b (some q) none) (doubled ps) qs′) hit rest in
+  second-acts : (h : Option Pair) (s t : Cea608State) (qs : List Pair) → isCommandPair p ≡ true → Same s t → wasSpoiled h p ≡ true → isLast p (s .«last_data») ≡ false → OneByOne h (p ∷ doubled ps) qs → Agrees s t qs (p ∷ ps)
+  second-acts h s t qs is same hit other (one.is-spoiled c w even rest) = absurd (true≢false (sym hit ∙ w))
+  second-acts none s t qs is same hit other (one.arrives rest) = absurd (true≢false (sym hit))
+  second-acts (some q) s t qs is same hit other (one.arrives {qs = qs′} rest) =
+      let on = subst (λ (b : Bool). OneByOne (cond b (some q) none) (doubled ps) qs′) hit rest in
       acts-heard s t qs′ is other
       (go (some q) qs′ _ _ on (ap last.Was (sym (same-is-equal q p hit))) (acted-same s t same))
 
   -- the two copies of a command
-  command-heard : (h : Option Pair) (qs : List Pair) (s t : Cea608State) (hit : Bool) → wasSpoiled h p ≡ hit → isCommandPair p ≡ true → Line h (p ∷ p ∷ doubled ps) qs → Ready h (s .«last_data») → Same s t → Agrees s t qs (p ∷ ps)
-  command-heard h qs s t hit w is (line.text-arrives e rest) ready same = absurd (true≢false (sym is ∙ e))
-  command-heard h qs s t false w is (line.command-arrives {qs = qs′} c rest) ready same =
-      let first = subst (λ (b : Bool). Line (cond b h none) (p ∷ doubled ps) qs′) w rest in
+  command-heard : (h : Option Pair) (qs : List Pair) (s t : Cea608State) (hit : Bool) → wasSpoiled h p ≡ hit → isCommandPair p ≡ true → OneByOne h (p ∷ p ∷ doubled ps) qs → Ready h (s .«last_data») → Same s t → Agrees s t qs (p ∷ ps)
+  command-heard h qs s t false w is (one.arrives {qs = qs′} rest) ready same =
+      let first = subst (λ (b : Bool). OneByOne (cond b h none) (p ∷ doubled ps) qs′) w rest in
       let other = repeat-is-told h (s .«last_data») p said (is-command is) ready ∙ w in
       acts-heard s t qs′ is other (second-after-acting _ _ qs′ is (acted-same s t same) refl first)
-  command-heard h qs s t true w is (line.command-arrives {qs = qs′} c rest) ready same =
-      let on = subst (λ (b : Bool). Line (cond b h none) (p ∷ doubled ps) qs′) w rest in
+  command-heard h qs s t true w is (one.arrives {qs = qs′} rest) ready same =
+      let on = subst (λ (b : Bool). OneByOne (cond b h none) (p ∷ doubled ps) qs′) w rest in
       let again = repeat-is-told h (s .«last_data») p said (is-command is) ready ∙ w in
       silent-in-front s t (skipped s) p qs′ (p ∷ ps) (repeat-is-skipped s p said (is-command is) again)
       (second-acts h (skipped s) t qs′ is (record { channel = same .channel; field = same .field }) w refl on)
-  command-heard h qs s t hit w is (line.command-is-spoiled {q = q} {qs = qs′} c fine even rest) ready same =
+  command-heard h qs s t hit w is (one.is-spoiled {q = q} {qs = qs′} c fine even rest) ready same =
       let other = repeat-is-told h (s .«last_data») p said (is-command is) ready ∙ fine in
       hit-in-front s t q qs′ (p ∷ ps) even (second-acts (some p) s t qs′ is same (same-itself p) other rest)
 
   pair-heard : (t : Bool) → isCommandPair p ≡ t → Continues (p ∷ ps)
-  pair-heard true is h qs s t line ready same =
-      let twice = subst (λ (b : Bool). Line h (cond b (p ∷ p ∷ doubled ps) (p ∷ doubled ps)) qs) is line in
+  pair-heard true is h qs s t sent ready same =
+      let twice = subst (λ (b : Bool). OneByOne h (cond b (p ∷ p ∷ doubled ps) (p ∷ doubled ps)) qs) is sent in
       command-heard h qs s t (wasSpoiled h p) refl is twice ready same
-  pair-heard false is h qs s t line ready same =
-      let single = subst (λ (b : Bool). Line h (cond b (p ∷ p ∷ doubled ps) (p ∷ doubled ps)) qs) is line in
+  pair-heard false is h qs s t sent ready same =
+      let single = subst (λ (b : Bool). OneByOne h (cond b (p ∷ p ∷ doubled ps) (p ∷ doubled ps)) qs) is sent in
       text-heard h qs s t is single same
 
-nothing-heard : (h : Option Pair) (qs : List Pair) (s t : Cea608State) → Line h [] qs → Same s t → Agrees s t qs []
-nothing-heard h qs s t line.ends same = record { same-events = refl; ends-same = same }
+nothing-heard : (h : Option Pair) (qs : List Pair) (s t : Cea608State) → OneByOne h [] qs → Same s t → Agrees s t qs []
+nothing-heard h qs s t one.ends same = record { same-events = refl; ends-same = same }
 
 pub doubled-is-heard-once : (ps : List Pair) → AllOdd ps → Continues ps
-doubled-is-heard-once [] odd h qs s t line ready same = nothing-heard h qs s t line same
-doubled-is-heard-once (p ∷ ps) odd h qs s t line ready same =
-    pair-heard p ps (odd .0) (doubled-is-heard-once ps (odd .1)) (isCommandPair p) refl h qs s t line ready same
+doubled-is-heard-once [] odd h qs s t sent ready same = nothing-heard h qs s t sent same
+doubled-is-heard-once (p ∷ ps) odd h qs s t sent ready same =
+    pair-heard p ps (odd .0) (doubled-is-heard-once ps (odd .1)) (isCommandPair p) refl h qs s t sent ready same

@@ -4,6 +4,7 @@ pub mod Heard
 pub mod SendsLeft
 pub mod NextPair
 pub mod NothingLeft
+pub mod OneByOne
 pub mod Order
 pub mod OwedFits
 pub mod Refines

@@ -12,9 +12,10 @@ use Rattle.receiver.proofs.Step.{even-is-refused-1, odd-is-not-refused}
 use Rattle.receiver.specs.Reading.{answers}
 use Rattle.receiver.specs.Receiver.{step}
 use Rattle.receiver.specs.declared.state.Cea608State.{Cea608State}
-use Rattle.sender.proofs.Heard.{same-is-equal, same-itself}
-use Rattle.sender.specs.Agreement.{AllOdd, Line, isOddPair, refusal, samePair, spoiledPlaces}
+use Rattle.sender.proofs.OneByOne.{same-itself, spoiled-is-another}
+use Rattle.sender.specs.Agreement.{Carried, isOddPair, refusal, samePair, spoiledPlaces}
 use Rattle.sender.specs.Agreement as line
+use Rattle.sender.specs.OneByOne.{AllOdd}
 
 heard : (o : Outcome (Option Cea608)) → ((n : ℕ) → o ≡ refused n → ⊥) → refusal o ≡ 0
 heard (answer e) h = refl
@@ -27,18 +28,12 @@ arrived s p odd =
     ∙ sym (ap (λ (t : Bool). cond t 0 1) (same-itself p))
 
 -- and one that parity shows is another than was sent, and is refused
-no-other : (p q : Pair) (t : Bool) → samePair p q ≡ t → isOddPair p ≡ true → isOddPair q ≡ false → t ≡ false
-no-other p q false e odd even = refl
-no-other p q true e odd even = absurd (true≢false (sym odd ∙ ap isOddPair (same-is-equal p q e) ∙ even))
-
 hit : (s : Cea608State) (p q : Pair) → isOddPair p ≡ true → isOddPair q ≡ false → refusal (step s q .0) ≡ cond (samePair p q) 0 1
-hit s p q odd even = rw (even-is-refused-1 s q even, no-other p q (samePair p q) refl odd even) refl
+hit s p q odd even = rw (even-is-refused-1 s q even, spoiled-is-another p q odd even) refl
 
-pub the-spoiled-are-refused : (h : Option Pair) (ps qs : List Pair) (s : Cea608State) → AllOdd ps → Line h ps qs → map refusal (answers s qs) ≡ spoiledPlaces ps qs
-the-spoiled-are-refused h ps qs s all line.ends = refl
-the-spoiled-are-refused h ps qs s all (line.text-arrives {p = p} {ps = ps′} {qs = qs′} e rest) =
-    ap₂ _∷_ (arrived s p (all .0)) (the-spoiled-are-refused _ ps′ qs′ (step s p .1) (all .1) rest)
-the-spoiled-are-refused h ps qs s all (line.command-arrives {p = p} {ps = ps′} {qs = qs′} e rest) =
-    ap₂ _∷_ (arrived s p (all .0)) (the-spoiled-are-refused _ ps′ qs′ (step s p .1) (all .1) rest)
-the-spoiled-are-refused h ps qs s all (line.command-is-spoiled {p = p} {q = q} {ps = ps′} {qs = qs′} e w even rest) =
-    ap₂ _∷_ (hit s p q (all .0) even) (the-spoiled-are-refused _ ps′ qs′ (step s q .1) (all .1) rest)
+pub the-spoiled-are-refused : (ps qs : List Pair) (s : Cea608State) → AllOdd ps → Carried ps qs → map refusal (answers s qs) ≡ spoiledPlaces ps qs
+the-spoiled-are-refused ps qs s all line.ends = refl
+the-spoiled-are-refused ps qs s all (line.arrives {p = p} {ps = ps′} {qs = qs′} rest) =
+    ap₂ _∷_ (arrived s p (all .0)) (the-spoiled-are-refused ps′ qs′ (step s p .1) (all .1) rest)
+the-spoiled-are-refused ps qs s all (line.is-spoiled {p = p} {q = q} {ps = ps′} {qs = qs′} command even rest) =
+    ap₂ _∷_ (hit s p q (all .0) even) (the-spoiled-are-refused ps′ qs′ (step s q .1) (all .1) rest)

@@ -1,11 +1,12 @@
 -- The agreement: demand 3 of the customer's letter, its sentences in their order. `DemandThree` at the end is the demand;
 -- `agreement` in proofs/Agreement.antt proves it. Every call in it is the definition to which a promise binds the code.
-use Prim.Native.Nat.{ℕ}
+use Prim.Native.Nat.{ℕ, _+_, _≤_}
 use mathlib.Core.Bool.{Bool, true, false, cond, _&&_}
 use mathlib.Core.List.{List, [], _∷_, _++_, map}
 use mathlib.Core.Option.{Option, none, some}
 use mathlib.Core.Path.{_≡_}
 use lib.Dec.{eqb}
+use lib.ListN.{drop, length, replicate, take}
 use Rattle.code.specs.Outcome.{Outcome, answer, refused}
 use Rattle.code.specs.Parity.{isOdd}
 use Rattle.code.specs.declared.code.Code.{Code}
@@ -63,37 +64,38 @@ queuePairs [] s = []
 queuePairs (a ∷ acts) s = poppedIn a s ++ queuePairs acts (acted a s)
 
 -- "The line may spoil pairs so that parity shows it: no pair that is not a command, and at most one copy in each unbroken
--- stretch of one command pair." What was sent, and what arrived, pair by pair. Beside them the command pair of which a
--- copy was spoiled in the stretch so far, if one was: the stretch goes on as long as that pair is sent.
-abbrev pub samePair : Pair → Pair → Bool
-samePair p q = eqb (p .0) (q .0) && eqb (p .1) (q .1)
-
+-- stretch of one command pair." First pair by pair: it arrives as it was sent or, a command, with a byte of even parity.
 abbrev pub isOddPair : Pair → Bool
 isOddPair p = isOdd (p .0) && isOdd (p .1)
 
-abbrev pub AllOdd : List Pair → Type 0
-AllOdd [] = Unit
-AllOdd (p ∷ ps) = (isOddPair p ≡ true) × AllOdd ps
+pub data Carried : List Pair → List Pair → Type 0 where
+  ends : Carried [] []
+  arrives : {p : Pair} {ps qs : List Pair} → Carried ps qs → Carried (p ∷ ps) (p ∷ qs)
+  is-spoiled : {p q : Pair} {ps qs : List Pair} → isCommandPair p ≡ true → isOddPair q ≡ false → Carried ps qs → Carried (p ∷ ps) (q ∷ qs)
 
-abbrev pub wasSpoiled : Option Pair → Pair → Bool
-wasSpoiled none p = false
-wasSpoiled (some q) p = samePair q p
+-- where a pair arrived as another: 1, else 0
+abbrev pub samePair : Pair → Pair → Bool
+samePair p q = eqb (p .0) (q .0) && eqb (p .1) (q .1)
 
-abbrev pub goesOn : Option Pair → Pair → Option Pair
-goesOn h p = cond (wasSpoiled h p) h none
-
-pub data Line : Option Pair → List Pair → List Pair → Type 0 where
-  ends : {h : Option Pair} → Line h [] []
-  text-arrives : {h : Option Pair} {p : Pair} {ps qs : List Pair} → isCommandPair p ≡ false → Line none ps qs → Line h (p ∷ ps) (p ∷ qs)
-  command-arrives : {h : Option Pair} {p : Pair} {ps qs : List Pair} → isCommandPair p ≡ true → Line (goesOn h p) ps qs → Line h (p ∷ ps) (p ∷ qs)
-  command-is-spoiled : {h : Option Pair} {p q : Pair} {ps qs : List Pair} → isCommandPair p ≡ true → wasSpoiled h p ≡ false → isOddPair q ≡ false → Line (some p) ps qs → Line h (p ∷ ps) (q ∷ qs)
-
--- where a pair arrived as another: 1, else 0; and the number by which a pair was refused, else 0
 abbrev pub spoiledPlaces : List Pair → List Pair → List ℕ
 spoiledPlaces (p ∷ ps) (q ∷ qs) = cond (samePair p q) 0 1 ∷ spoiledPlaces ps qs
 spoiledPlaces [] qs = []
 spoiledPlaces (p ∷ ps) [] = []
 
+abbrev pub hits : List ℕ → ℕ
+hits [] = 0
+hits (n ∷ ns) = n + hits ns
+
+-- then stretch by stretch: wherever n copies of one pair were sent in a row, at most one of them is spoiled
+abbrev pub OneHit : List Pair → List Pair → Type 0
+OneHit sent arrived =
+    (before : List Pair) (n : ℕ) (p : Pair) (behind : List Pair) → sent ≡ before ++ (replicate n p ++ behind) → hits (take n (drop (length before) (spoiledPlaces sent arrived))) ≤ 1
+
+pub record Line (sent arrived : List Pair) : Type 0 where
+  pub pairs : Carried sent arrived
+  pub stretches : OneHit sent arrived
+
+-- the number by which a pair was refused, else 0
 abbrev pub refusal : Outcome (Option Cea608) → ℕ
 refusal (answer e) = 0
 refusal (refused n) = n
@@ -107,4 +109,4 @@ pub record Agreement (acts : List Act) (arrived : List Pair) : Type 0 where
   pub refuses-the-spoiled : map refusal (answers fresh arrived) ≡ spoiledPlaces (sentBy acts freshSender) arrived
 
 abbrev pub DemandThree : Type 0
-DemandThree = (acts : List Act) (arrived : List Pair) → EndsIdle acts → Line none (sentBy acts freshSender) arrived → Agreement acts arrived
+DemandThree = (acts : List Act) (arrived : List Pair) → EndsIdle acts → Line (sentBy acts freshSender) arrived → Agreement acts arrived

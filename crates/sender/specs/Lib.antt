@@ -6,4 +6,5 @@ pub mod Doubled
 pub mod SendsLeft
 pub mod Calls
 pub mod Agreement
+pub mod OneByOne
 pub mod Good

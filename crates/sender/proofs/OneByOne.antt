@@ -1,0 +1,166 @@
+-- The line as the letter has it, of whole stretches, and the same pair by pair: each follows from the other, where what
+-- was sent has odd parity.
+-- Assumes nothing.
+use mathlib.Core.Bool.{Bool, true, false, cond, _&&_, true≢false}
+use mathlib.Core.List.{List, [], _∷_, _++_}
+use mathlib.Core.Option.{Option, none, some}
+use mathlib.Core.Path.{_≡_, refl, ap, ap₂, sym, subst, _∙_}
+use Prim.Native.Nat.{ℕ, zero, suc, _+_, _≤_}
+use native.Mathlib.Omega.{arith}
+use borrow.Author.Tests.{eq-eqb, eqb-true}
+use lib.Dec.{eqb}
+use lib.ListN.{drop, getD, length, replicate, take}
+use Rattle.code.specs.Write.{pair}
+use Rattle.code.specs.declared.pair.Pair.{Pair}
+use Rattle.sender.specs.Agreement.{Carried, Line, OneHit, hits, isOddPair, samePair, spoiledPlaces}
+use Rattle.sender.specs.Agreement as line
+use Rattle.sender.specs.OneByOne.{AllOdd, OneByOne, goesOn, wasSpoiled}
+use Rattle.sender.specs.OneByOne as one
+use Rattle.sender.specs.Sending.{isCommandPair}
+
+pub both : (t u : Bool) → (t && u) ≡ true → (t ≡ true) × (u ≡ true)
+both true true e = (refl, refl)
+both true false e = absurd (true≢false (sym e))
+both false u e = absurd (true≢false (sym e))
+
+pub same-itself : (p : Pair) → samePair p p ≡ true
+same-itself p = rw (eq-eqb (p .0) (p .0) refl, eq-eqb (p .1) (p .1) refl)
+
+pub same-is-equal : (p q : Pair) → samePair p q ≡ true → p ≡ q
+same-is-equal p q e =
+    let b = both (eqb (p .0) (q .0)) (eqb (p .1) (q .1)) e in
+    ap₂ pair (eqb-true (p .0) (q .0) (b .0)) (eqb-true (p .1) (q .1) (b .1))
+
+-- a pair that parity shows is another than was sent
+by-parity : (p q : Pair) (t : Bool) → samePair p q ≡ t → isOddPair p ≡ true → isOddPair q ≡ false → t ≡ false
+by-parity p q false e odd even = refl
+by-parity p q true e odd even = absurd (true≢false (sym odd ∙ ap isOddPair (same-is-equal p q e) ∙ even))
+
+pub spoiled-is-another : (p q : Pair) → isOddPair p ≡ true → isOddPair q ≡ false → samePair p q ≡ false
+spoiled-is-another p q odd even = by-parity p q (samePair p q) refl odd even
+
+-- no copy is spoiled while a stretch of which one was goes on
+abbrev Spared : Option Pair → List Pair → List Pair → Type 0
+Spared none sent arrived = Unit
+Spared (some p) sent arrived =
+    (n : ℕ) (behind : List Pair) → sent ≡ replicate n p ++ behind → hits (take n (spoiledPlaces sent arrived)) ≡ 0
+
+module _ (p q : Pair) (ps qs : List Pair) where
+  -- what holds of every stretch holds of every stretch further on
+  further : OneHit (p ∷ ps) (q ∷ qs) → OneHit ps qs
+  further all before n x behind e = all (p ∷ before) n x behind (ap (λ (l : List Pair). p ∷ l) e)
+
+  -- a copy that arrived was not spoiled, and one that parity shows was
+  spared-on : (h : Option Pair) (t : Bool) → wasSpoiled h p ≡ t → samePair p q ≡ true → Spared h (p ∷ ps) (q ∷ qs) → Spared (cond t h none) ps qs
+  spared-on none true w same spared = tt
+  spared-on none false w same spared = tt
+  spared-on (some x) false w same spared = tt
+  spared-on (some x) true w same spared =
+      λ (n : ℕ) (behind : List Pair) (e : ps ≡ replicate n x ++ behind).
+      let is : p ≡ x = sym (same-is-equal x p w) in
+      omega (arith, spared (suc n) behind (ap₂ _∷_ is e))
+
+  spared-from : isOddPair p ≡ true → isOddPair q ≡ false → OneHit (p ∷ ps) (q ∷ qs) → Spared (some p) ps qs
+  spared-from odd even all n behind e =
+      let told = all [] (suc n) p behind (ap (λ (l : List Pair). p ∷ l) e) in
+      let here = ap (λ (t : Bool). cond {A = ℕ} t 0 1) (spoiled-is-another p q odd even) in
+      omega (arith, told, here)
+
+  -- the first copy of a stretch of which one was spoiled is not
+  not-twice : (h : Option Pair) (t : Bool) → wasSpoiled h p ≡ t → isOddPair p ≡ true → isOddPair q ≡ false → Spared h (p ∷ ps) (q ∷ qs) → t ≡ false
+  not-twice h false w odd even spared = refl
+  not-twice none true w odd even spared = absurd (true≢false (sym w))
+  not-twice (some x) true w odd even spared =
+      let is : p ≡ x = sym (same-is-equal x p w) in
+      let told = spared 1 ps (ap (λ (y : Pair). y ∷ ps) is) in
+      let here = ap (λ (t : Bool). cond {A = ℕ} t 0 1) (spoiled-is-another p q odd even) in
+      absurd (omega (arith, told, here))
+
+pub pair-by-pair : (h : Option Pair) (sent arrived : List Pair) → AllOdd sent → Carried sent arrived → OneHit sent arrived → Spared h sent arrived → OneByOne h sent arrived
+pair-by-pair h sent arrived odd line.ends all spared = one.ends
+pair-by-pair h sent arrived odd (line.arrives {p = p} {ps = ps} {qs = qs} rest) all spared =
+    one.arrives (pair-by-pair (goesOn h p) ps qs (odd .1) rest (further p p ps qs all) (spared-on p p ps qs h (wasSpoiled h p) refl (same-itself p) spared))
+pair-by-pair h sent arrived odd (line.is-spoiled {p = p} {q = q} {ps = ps} {qs = qs} command even rest) all spared =
+    one.is-spoiled command (not-twice p q ps qs h (wasSpoiled h p) refl (odd .0) even spared) even
+    (pair-by-pair (some p) ps qs (odd .1) rest (further p q ps qs all) (spared-from p q ps qs (odd .0) even all))
+
+-- every line that the letter allows, pair by pair
+pub line-one-by-one : (sent arrived : List Pair) → AllOdd sent → Line sent arrived → OneByOne none sent arrived
+line-one-by-one sent arrived odd l = pair-by-pair none sent arrived odd (l .pairs) (l .stretches) tt
+
+-- and back: a line that is allowed pair by pair is one that the letter allows
+carried : (h : Option Pair) (sent arrived : List Pair) → OneByOne h sent arrived → Carried sent arrived
+carried h sent arrived one.ends = line.ends
+carried h sent arrived (one.arrives {ps = ps} {qs = qs} rest) = line.arrives (carried _ ps qs rest)
+carried h sent arrived (one.is-spoiled {ps = ps} {qs = qs} command w even rest) = line.is-spoiled command even (carried _ ps qs rest)
+
+-- what stands in front of one list and of another that is the same, and what is behind it
+in-front : (x y : Pair) (xs ys : List Pair) → x ∷ xs ≡ y ∷ ys → x ≡ y
+in-front x y xs ys e = ap (λ (l : List Pair). getD l 0 x) e
+
+behind : (x y : Pair) (xs ys : List Pair) → x ∷ xs ≡ y ∷ ys → xs ≡ ys
+behind x y xs ys e = ap (drop 1) e
+
+-- of n copies at the front at most one is spoiled, and none where one was before
+abbrev AtFront : Bool → ℕ → Type 0
+AtFront true n = n ≡ 0
+AtFront false n = n ≤ 1
+
+at-most-one : (t : Bool) (n : ℕ) → AtFront t n → n ≤ 1
+at-most-one true n e = omega (arith, e)
+at-most-one false n e = e
+
+arrived-adds : (p : Pair) (t : Bool) (n : ℕ) → AtFront t n → AtFront t (cond (samePair p p) 0 1 + n)
+arrived-adds p true n e = rw (same-itself p) (omega (arith, e))
+arrived-adds p false n e = rw (same-itself p) (omega (arith, e))
+
+spoiled-adds : (p q : Pair) (n : ℕ) → isOddPair p ≡ true → isOddPair q ≡ false → n ≡ 0 → cond (samePair p q) 0 1 + n ≤ 1
+spoiled-adds p q n odd even e = rw (spoiled-is-another p q odd even, e) (omega arith)
+
+weaker : (t : Bool) (n : ℕ) → AtFront t n → AtFront false n
+weaker t n e = at-most-one t n e
+
+front : (n : ℕ) (h : Option Pair) (sent arrived : List Pair) (p : Pair) (rest : List Pair) → AllOdd sent → OneByOne h sent arrived → sent ≡ replicate n p ++ rest → AtFront (wasSpoiled h p) (hits (take n (spoiledPlaces sent arrived)))
+front zero h sent arrived p rest odd passed e = none-yet (wasSpoiled h p)
+  where
+    none-yet : (t : Bool) → AtFront t 0
+    none-yet true = refl
+    none-yet false = omega arith
+front (suc n) h sent arrived p rest odd one.ends e = absurd (omega (arith, ap length e))
+front (suc n) h sent arrived p rest odd (one.arrives {p = x} {ps = ps} {qs = qs} passed) e =
+    let is = in-front x p ps (replicate n p ++ rest) e in
+    let later = front n (goesOn h x) ps qs p rest (odd .1) passed (behind x p ps (replicate n p ++ rest) e) in
+    arrived-adds x (wasSpoiled h p) _ (still (wasSpoiled h p) refl is later)
+  where
+    still : (t : Bool) → wasSpoiled h p ≡ t → x ≡ p → AtFront (wasSpoiled (goesOn h x) p) (hits (take n (spoiledPlaces ps qs))) → AtFront t (hits (take n (spoiledPlaces ps qs)))
+    still true w is later =
+        let on = ap (λ (t : Bool). wasSpoiled (cond t h none) p) (ap (wasSpoiled h) is ∙ w) ∙ w in
+        subst (λ (t : Bool). AtFront t (hits (take n (spoiledPlaces ps qs)))) on later
+    still false w is later = weaker (wasSpoiled (goesOn h x) p) _ later
+front (suc n) h sent arrived p rest odd (one.is-spoiled {p = x} {q = q} {ps = ps} {qs = qs} command w even passed) e =
+    let is = in-front x p ps (replicate n p ++ rest) e in
+    let later = front n (some x) ps qs p rest (odd .1) passed (behind x p ps (replicate n p ++ rest) e) in
+    subst (λ (t : Bool). AtFront t (cond (samePair x q) 0 1 + hits (take n (spoiledPlaces ps qs)))) (sym (ap (wasSpoiled h) (sym is) ∙ w))
+    (spoiled-adds x q _ (odd .0) even (subst (λ (t : Bool). AtFront t (hits (take n (spoiledPlaces ps qs)))) (ap (samePair x) (sym is) ∙ same-itself x) later))
+
+one-hit : (before : List Pair) (h : Option Pair) (sent arrived : List Pair) → AllOdd sent → OneByOne h sent arrived → (n : ℕ) (p : Pair) (rest : List Pair) → sent ≡ before ++ (replicate n p ++ rest) → hits (take n (drop (length before) (spoiledPlaces sent arrived))) ≤ 1
+one-hit [] h sent arrived odd passed n p rest e = at-most-one (wasSpoiled h p) _ (front n h sent arrived p rest odd passed e)
+one-hit (x ∷ before) h sent arrived odd one.ends n p rest e = absurd (omega (arith, ap length e))
+one-hit (x ∷ before) h sent arrived odd (one.arrives {p = y} {ps = ps} {qs = qs} passed) n p rest e =
+    one-hit before _ ps qs (odd .1) passed n p rest (behind y x ps (before ++ (replicate n p ++ rest)) e)
+one-hit (x ∷ before) h sent arrived odd (one.is-spoiled {p = y} {ps = ps} {qs = qs} command w even passed) n p rest e =
+    one-hit before _ ps qs (odd .1) passed n p rest (behind y x ps (before ++ (replicate n p ++ rest)) e)
+
+pub one-by-one-is-a-line : (sent arrived : List Pair) → AllOdd sent → OneByOne none sent arrived → Line sent arrived
+one-by-one-is-a-line sent arrived odd passed = record {
+  pairs = carried none sent arrived passed;
+  stretches = λ (before : List Pair) (n : ℕ) (p : Pair) (rest : List Pair). one-hit before none sent arrived odd passed n p rest;
+}
+
+-- a line that spoils nothing is one
+clean : (h : Option Pair) (sent : List Pair) → OneByOne h sent sent
+clean h [] = one.ends
+clean h (p ∷ ps) = one.arrives (clean (goesOn h p) ps)
+
+pub clean-line : (sent : List Pair) → AllOdd sent → Line sent sent
+clean-line sent odd = one-by-one-is-a-line sent sent odd (clean none sent)

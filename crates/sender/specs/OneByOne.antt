@@ -1,0 +1,26 @@
+-- The line read pair by pair, with the one thing to remember: of which pair a copy was spoiled in the stretch so far, if of
+-- one. `Line` says the same of whole stretches; proofs/OneByOne.antt leads from each to the other.
+use mathlib.Core.Bool.{Bool, true, false, cond}
+use mathlib.Core.List.{List, [], _∷_}
+use mathlib.Core.Option.{Option, none, some}
+use mathlib.Core.Path.{_≡_}
+use Rattle.code.specs.declared.pair.Pair.{Pair}
+use Rattle.sender.specs.Agreement.{isOddPair, samePair}
+use Rattle.sender.specs.Sending.{isCommandPair}
+
+abbrev pub AllOdd : List Pair → Type 0
+AllOdd [] = Unit
+AllOdd (p ∷ ps) = (isOddPair p ≡ true) × AllOdd ps
+
+abbrev pub wasSpoiled : Option Pair → Pair → Bool
+wasSpoiled none p = false
+wasSpoiled (some q) p = samePair q p
+
+-- the stretch goes on as long as its pair is sent
+abbrev pub goesOn : Option Pair → Pair → Option Pair
+goesOn h p = cond (wasSpoiled h p) h none
+
+pub data OneByOne : Option Pair → List Pair → List Pair → Type 0 where
+  ends : {h : Option Pair} → OneByOne h [] []
+  arrives : {h : Option Pair} {p : Pair} {ps qs : List Pair} → OneByOne (goesOn h p) ps qs → OneByOne h (p ∷ ps) (p ∷ qs)
+  is-spoiled : {h : Option Pair} {p q : Pair} {ps qs : List Pair} → isCommandPair p ≡ true → wasSpoiled h p ≡ false → isOddPair q ≡ false → OneByOne (some p) ps qs → OneByOne h (p ∷ ps) (q ∷ qs)
