@@ -1,3 +1,4 @@
+pub mod Filling
 pub mod NextPair
 pub mod NothingLeft
 pub mod OwedFits
