@@ -1,4 +1,5 @@
 pub mod Filling
+pub mod Lent
 pub mod NextPair
 pub mod NothingLeft
 pub mod OwedFits

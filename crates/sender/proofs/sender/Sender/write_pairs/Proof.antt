@@ -24,12 +24,13 @@ abbrev μ-loop : tie.MeasureT-loop
 μ-loop part₀ limit room sender₀ sends₀ at₀ part sender sends at = limit - sends
 
 loop-holds : tie.Need-loop-holds Inv-loop μ-loop
-loop-holds c =
-    (begun (c .before .args .limit) (c .before .args .self) (c .before .args .part .now),
-    c .before .pre,
-    refl,
-    refl,
-    omega arith)
+loop-holds c = (
+  begun (c .before .args .limit) (c .before .args .self) (c .before .args .part .now),
+  c .before .pre,
+  refl,
+  refl,
+  omega arith,
+)
 
 sub-if1 : tie.Need-sub-if1 Inv-loop μ-loop
 sub-if1 c = omega arith
@@ -79,12 +80,13 @@ loop-again : tie.Need-loop-again Inv-loop μ-loop
 loop-again c =
     let loop = c .before .before .before .before .before .before .before .loop in
     let next = c .before .before .next in
-    let busy = sym (c .before .before .before .before .has-nothing .ensures) ∙ c .before .before .before .if2 .left in
-    (one-turn _ (loop .sends) (loop .sender) (loop .part) (loop .at) (next .result) (loop .inv .1) (next .ensures) (omega arith) (omega arith) busy ∙ loop .inv .0,
-    ap (λ (r : Outcome Pair × Sender). wellFormed (r .1)) (next .ensures) ∙ sent-formed (loop .sender) (loop .inv .1),
-    simp length-set (loop .inv .2),
-    loop .inv .3,
-    omega arith)
+    let busy = sym (c .before .before .before .before .has-nothing .ensures) ∙ c .before .before .before .if2 .left in (
+      one-turn _ (loop .sends) (loop .sender) (loop .part) (loop .at) (next .result) (loop .inv .1) (next .ensures) (omega arith) (omega arith) busy ∙ loop .inv .0,
+      ap (λ (r : Outcome Pair × Sender). wellFormed (r .1)) (next .ensures) ∙ sent-formed (loop .sender) (loop .inv .1),
+      simp length-set (loop .inv .2),
+      loop .inv .3,
+      omega arith,
+    )
 
 same-length-3 : tie.Need-same-length-3 Inv-loop μ-loop
 same-length-3 c = c .before .loop .inv .2
