@@ -1,11 +1,14 @@
 pub mod Agreement
 pub mod Doubled
+pub mod Filling
 pub mod Heard
-pub mod SendsLeft
+pub mod Lent
 pub mod NextPair
 pub mod NothingLeft
+pub mod OneAnswer
 pub mod OneByOne
 pub mod Order
 pub mod OwedFits
 pub mod Refines
 pub mod Refused
+pub mod SendsLeft
