@@ -1,8 +1,11 @@
 pub mod Agreement
+pub mod AnyPadding
 pub mod Doubled
+pub mod DrainedBytes
 pub mod Filling
 pub mod Heard
 pub mod Lent
+pub mod Limits
 pub mod NextPair
 pub mod NothingLeft
 pub mod OneAnswer

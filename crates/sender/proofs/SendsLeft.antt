@@ -15,7 +15,14 @@ use Rattle.code.specs.declared.code.Code.{Code}
 use Rattle.code.specs.declared.pair.Pair.{Pair}
 use Rattle.queue.proofs.WellFormed.{one-held}
 use Rattle.queue.specs.Queue.{Pop, Queued, byteOf, count, heldCodes, isSingle, pairOf, pop, popCommand, popHeld, popSingle, popTwo, popWaiting, queued}
+use Rattle.code.specs.Outcome.{answer}
+use Rattle.sender.proofs.Order.{sends-stay-good}
+use Rattle.sender.proofs.Refines.{send-good, send-refines}
 use Rattle.sender.specs.Doubled.{stillOwed}
+use Rattle.sender.specs.Drain.{sendTimes}
+use Rattle.sender.specs.Good.{Good}
+use Rattle.sender.specs.Sender.{idleSender, sendSender, view, wellFormed}
+use Rattle.sender.specs.declared.sender.Sender.{Sender}
 use Rattle.sender.specs.SendsLeft.{afterSends, fullOf, sendsLeft}
 use Rattle.sender.specs.Sending.{Sending, isCommandPair, isIdle, repeatOf, send, sendOwed, sendPopped, sending}
 
@@ -126,3 +133,18 @@ module _ (c : Code) (two : isSingle c ≡ false) (wants : needsBackspace c ≡ t
       ∙ ap (λ (s : Sending). isIdle (afterSends k (send s .next))) (waiting-then n)
       ∙ ap (λ (s : Sending). isIdle (afterSends k s)) (held-then n)
       ∙ needs-them-all n k (omega arith)
+
+-- the same of the code's state: after 3 n + 1 sends it says that it is idle
+sends-refine : (n : ℕ) (s : Sender) → Good s → view (sendTimes n s) ≡ afterSends n (view s)
+sends-refine zero s g = refl
+sends-refine (suc n) s g =
+    sends-refine n (sendSender s .1) (send-good s g) ∙ ap (afterSends n) (send-refines s g .1)
+
+answers-idle : (s : Sender) (t : Bool) → wellFormed s ≡ true → isIdle (view s) ≡ t → idleSender s .0 ≡ answer t
+unfolding idleSender
+answers-idle s t formed e = rw (formed, e) refl
+
+pub says-idle : (s : Sender) → Good s → idleSender (sendTimes (3 * count (view s .queue) + 1) s) .0 ≡ answer true
+says-idle s g =
+    let n = 3 * count (view s .queue) + 1 in
+    answers-idle (sendTimes n s) true (sends-stay-good n s g .formed) (ap isIdle (sends-refine n s g) ∙ idle-after (view s))

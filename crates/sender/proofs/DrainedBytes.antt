@@ -1,0 +1,100 @@
+-- What a drain does to the output, byte by byte: as many bytes as before, those of its sends' pairs from the start on, and
+-- every other as it was. And a drain is so many sends in a row: its pairs are theirs.
+-- Assumes nothing.
+use mathlib.Core.Bool.{Bool, true, false, cond}
+use mathlib.Core.List.{List, [], _∷_, _++_}
+use mathlib.Core.Path.{_≡_, refl, ap, ap₂, sym, subst, _∙_}
+use Prim.Native.Nat.{ℕ, zero, suc, _+_, _*_, _-_, _≤_, _<_}
+use native.Mathlib.Omega.{arith}
+use lib.ListN.{List·getD-append, drop, getD, length, length-append, length-drop, replicate, take}
+use lib.Seq.{getD-append-add, getD-drop, getD-take, length-take-le}
+use Rattle.code.specs.Outcome.{Outcome, answer, refused}
+use Rattle.code.specs.declared.pair.Pair.{Pair}
+use Rattle.sender.proofs.Refines.{send-good, send-refines}
+use Rattle.sender.specs.Agreement.{Act, queueing, sending, afterActs, given, sentBy}
+use Rattle.sender.specs.Drain.{bytesOf, drainedPairs, filled, sendTimes}
+use Rattle.sender.specs.Good.{Good}
+use Rattle.sender.specs.Sender.{sendSender, view}
+use Rattle.sender.specs.Sending.{Sending, isIdle, send}
+use Rattle.sender.specs.declared.sender.Sender.{Sender}
+
+-- a drain's pairs are those of as many sends, and it makes no more of them than its limit and its room
+abbrev pub justSends : ℕ → List Act
+justSends n = replicate n sending
+
+pub drained-pairs-are-sent : (limit room : ℕ) (s : Sender) → Good s → drainedPairs limit room (view s) ≡ sentBy (justSends (length (drainedPairs limit room (view s)))) s
+drained-pairs-are-sent zero room s g = refl
+drained-pairs-are-sent (suc limit) zero s g = refl
+drained-pairs-are-sent (suc limit) (suc zero) s g = refl
+drained-pairs-are-sent (suc limit) (suc (suc room)) s g =
+    unless-idle (isIdle (view s)) (drained-pairs-are-sent limit room (sendSender s .1) (send-good s g))
+  where
+    unless-idle : (t : Bool) → drainedPairs limit room (view (sendSender s .1)) ≡ sentBy (justSends (length (drainedPairs limit room (view (sendSender s .1))))) (sendSender s .1) → cond t [] (send (view s) .pair ∷ drainedPairs limit room (send (view s) .next)) ≡ sentBy (justSends (length (cond t [] (send (view s) .pair ∷ drainedPairs limit room (send (view s) .next))))) s
+    unless-idle true later = refl
+    unless-idle false later =
+        let told = send-refines s g in
+        let here = ap (drainedPairs limit room) (told .1) in
+        ap₂ (λ (l : List Pair) (o : Outcome Pair). given o ++ l) (sym here ∙ later ∙ ap (λ (l : List Pair). sentBy (justSends (length l)) (sendSender s .1)) here) (sym (told .0))
+
+pub drained-state-is-theirs : (n : ℕ) (s : Sender) → sendTimes n s ≡ afterActs (justSends n) s
+drained-state-is-theirs zero s = refl
+drained-state-is-theirs (suc n) s = drained-state-is-theirs n (sendSender s .1)
+
+-- it makes no more sends than its limit, and writes no more bytes than there is room for
+pub within-the-limit : (limit room : ℕ) (v : Sending) → length (drainedPairs limit room v) ≤ limit
+within-the-limit zero room v = omega arith
+within-the-limit (suc limit) zero v = omega arith
+within-the-limit (suc limit) (suc zero) v = omega arith
+within-the-limit (suc limit) (suc (suc room)) v = unless-idle (isIdle v) (within-the-limit limit room (send v .next))
+  where
+    unless-idle : (t : Bool) → length (drainedPairs limit room (send v .next)) ≤ limit → length (cond t [] (send v .pair ∷ drainedPairs limit room (send v .next))) ≤ suc limit
+    unless-idle true less = omega arith
+    unless-idle false less = omega (arith, less)
+
+pub within-the-room : (limit room : ℕ) (v : Sending) → length (bytesOf (drainedPairs limit room v)) ≤ room
+within-the-room zero room v = omega arith
+within-the-room (suc limit) zero v = omega arith
+within-the-room (suc limit) (suc zero) v = omega arith
+within-the-room (suc limit) (suc (suc room)) v = unless-idle (isIdle v) (within-the-room limit room (send v .next))
+  where
+    unless-idle : (t : Bool) → length (bytesOf (drainedPairs limit room (send v .next))) ≤ room → length (bytesOf (cond t [] (send v .pair ∷ drainedPairs limit room (send v .next)))) ≤ suc (suc room)
+    unless-idle true less = omega arith
+    unless-idle false less = omega (arith, less)
+
+-- two bytes a pair
+pub two-a-pair : (ps : List Pair) → length (bytesOf ps) ≡ 2 * length ps
+two-a-pair [] = refl
+two-a-pair (p ∷ ps) = omega (arith, two-a-pair ps)
+
+-- the output afterwards: as long as before, and the same in front of the start and behind the last pair
+module _ (out : List ℕ) (start : ℕ) (ps : List Pair) (inside : start ≤ length out) (room : length (bytesOf ps) ≤ length (drop start out)) where
+  abbrev written : List ℕ
+  written = take start out ++ filled (drop start out) ps
+
+  front : length (take start out) ≡ start
+  front = length-take-le start out inside
+
+  pub same-length : length written ≡ length out
+  same-length =
+      let rest = length-drop (length (bytesOf ps)) (drop start out) in
+      let whole = length-append (take start out) (filled (drop start out) ps) in
+      let part = length-append (bytesOf ps) (drop (length (bytesOf ps)) (drop start out)) in
+      omega (arith, whole, part, rest, front, length-drop start out, inside, room)
+
+  pub same-in-front : (i d : ℕ) → i < start → getD written i d ≡ getD out i d
+  same-in-front i d less =
+      List·getD-append (take start out) (filled (drop start out) ps) d i (omega (arith, front, less))
+      ∙ getD-take start out i d less
+
+  behind-by : (k d : ℕ) → getD written (start + (length (bytesOf ps) + k)) d ≡ getD out (start + (length (bytesOf ps) + k)) d
+  behind-by k d =
+      ap (λ (n : ℕ). getD written (n + (length (bytesOf ps) + k)) d) (sym front)
+      ∙ getD-append-add (take start out) (filled (drop start out) ps) (length (bytesOf ps) + k) d
+      ∙ getD-append-add (bytesOf ps) (drop (length (bytesOf ps)) (drop start out)) k d
+      ∙ getD-drop (length (bytesOf ps)) (drop start out) k d
+      ∙ getD-drop start out (length (bytesOf ps) + k) d
+
+  pub same-behind : (i d : ℕ) → start + length (bytesOf ps) ≤ i → getD written i d ≡ getD out i d
+  same-behind i d past =
+      let at : start + (length (bytesOf ps) + (i - start - length (bytesOf ps))) ≡ i = omega (arith, past) in
+      subst (λ (n : ℕ). getD written n d ≡ getD out n d) at (behind-by (i - start - length (bytesOf ps)) d)

@@ -1,0 +1,100 @@
+-- The agreement at work, and that its limits are real. A programme of three things, roll-up with two rows, a carriage
+-- return and "Hi", over a line that spoils one copy of each command is heard whole; with both copies of the carriage return
+-- spoiled the window does not scroll; with the text spoiled its words are lost. antt computes each from the definitions.
+-- Assumes nothing.
+use mathlib.Core.Bool.{false}
+use mathlib.Core.List.{List, [], _∷_}
+use mathlib.Core.Path.{_≡_, refl}
+use lib.Count.{ones, onesIn}
+use Rattle.code.specs.Channel.{channelOne, fieldOne}
+use Rattle.code.specs.Characters.{standard}
+use Rattle.code.specs.Letter.{letterAt}
+use Rattle.code.specs.Read.{readPair}
+use Rattle.code.specs.Write.{inDomain, pair, writeCode}
+use Rattle.code.specs.declared.character.Character.the-variants as character
+use Rattle.code.specs.declared.code.Code.{Code}
+use Rattle.code.specs.declared.code.Code.the-variants as code
+use Rattle.code.specs.declared.control.CodeField.the-variants.{Of}
+use Rattle.code.specs.declared.control.Command.{Command}
+use Rattle.code.specs.declared.control.Command.the-variants.{CarriageReturn, RollUp2}
+use Rattle.code.specs.declared.control.Control.the-variants as control
+use Rattle.code.specs.declared.pair.Pair.{Pair}
+use Rattle.event.specs.declared.event.Cea608.{Cea608}
+use Rattle.event.specs.declared.event.Cea608.the-variants as event
+use Rattle.event.specs.declared.mode.Mode.the-variants as mode
+use Rattle.queue.specs.Queue.{admit, pairOf, pop}
+use Rattle.queue.specs.Ring.{popRing, pushRing}
+use Rattle.queue.specs.Ring as ring
+use Rattle.receiver.specs.Reading.{answers, events, readOnce}
+use Rattle.receiver.specs.Receiver.{fresh}
+use Rattle.sender.proofs.OneByOne.{one-by-one-is-a-line}
+use Rattle.sender.specs.Agreement.{Act, queueing, sending, EndsIdle, Line, queuePairs, sentBy}
+use Rattle.sender.specs.OneByOne as one
+use Rattle.sender.specs.Sender.{freshSender, pushSender, sendSender, wellFormed}
+use Rattle.sender.specs.Sending.{send}
+
+abbrev command : Command → Code
+command c = code.Control (record { field = Of fieldOne; channel = channelOne; control = control.Command c })
+
+abbrev programme : List Act
+programme =
+    queueing (command RollUp2) ∷ queueing (command CarriageReturn) ∷ queueing (code.Letter (letterAt 0x28))
+    ∷ queueing (code.Letter (letterAt 0x49)) ∷ sending ∷ sending ∷ sending ∷ sending ∷ sending ∷ []
+
+abbrev rollUp : Pair
+rollUp = pair 0x94 0x25
+
+abbrev return : Pair
+return = pair 0x94 0xAD
+
+abbrev hi : Pair
+hi = pair 0xC8 0xE9
+
+abbrev modeEvent : Cea608
+modeEvent = event.NewMode channelOne mode.RollUp2
+
+abbrev returnEvent : Cea608
+returnEvent = event.CarriageReturn channelOne
+
+abbrev hiEvent : Cea608
+hiEvent = event.Text (record { «needs_backspace» = false; char1 = character.Point 0x48; char2 = character.Point 0x69; channel = channelOne })
+
+abbrev line : List Pair
+line = rollUp ∷ rollUp ∷ return ∷ return ∷ hi ∷ []
+
+pub what-is-sent : (sentBy programme freshSender ≡ line) × (queuePairs programme freshSender ≡ rollUp ∷ return ∷ hi ∷ []) × EndsIdle programme
+unfolding ones onesIn writeCode inDomain admit pairOf pop pushRing popRing ring.wellFormed wellFormed pushSender send sendSender
+what-is-sent = (refl, refl, refl)
+
+pub what-is-meant : events (readOnce fresh (rollUp ∷ return ∷ hi ∷ [])) ≡ modeEvent ∷ returnEvent ∷ hiEvent ∷ []
+unfolding readPair ones onesIn standard
+what-is-meant = refl
+
+-- a copy of each command spoiled, the first of the one and the second of the other: all is heard
+abbrev oneHitEach : List Pair
+oneHitEach = pair 0x14 0x25 ∷ rollUp ∷ return ∷ pair 0x94 0x2D ∷ hi ∷ []
+
+pub one-hit-each-is-allowed : Line line oneHitEach
+unfolding ones onesIn
+one-hit-each-is-allowed =
+    one-by-one-is-a-line line oneHitEach (refl, (refl, (refl, (refl, (refl, tt)))))
+    (one.is-spoiled refl refl refl (one.arrives (one.arrives (one.is-spoiled refl refl refl (one.arrives one.ends)))))
+
+pub one-hit-each-is-heard : events (answers fresh oneHitEach) ≡ modeEvent ∷ returnEvent ∷ hiEvent ∷ []
+unfolding readPair ones onesIn standard
+one-hit-each-is-heard = refl
+
+-- both copies of the carriage return spoiled: the window does not scroll
+pub two-hits-lose-a-command : events (answers fresh (rollUp ∷ rollUp ∷ pair 0x14 0xAD ∷ pair 0x94 0x2D ∷ hi ∷ [])) ≡ modeEvent ∷ hiEvent ∷ []
+unfolding readPair ones onesIn standard
+two-hits-lose-a-command = refl
+
+-- and so with two of the four copies where it was queued twice: it scrolls once
+pub two-hits-of-four-lose-a-command : events (answers fresh (return ∷ pair 0x14 0xAD ∷ pair 0x14 0xAD ∷ return ∷ [])) ≡ returnEvent ∷ []
+unfolding readPair ones onesIn
+two-hits-of-four-lose-a-command = refl
+
+-- the text spoiled: its words are lost
+pub a-hit-on-text-loses-words : events (answers fresh (rollUp ∷ rollUp ∷ return ∷ return ∷ pair 0x48 0xE9 ∷ [])) ≡ modeEvent ∷ returnEvent ∷ []
+unfolding readPair ones onesIn
+a-hit-on-text-loses-words = refl
