@@ -15,13 +15,25 @@ use Rattle.code.specs.declared.code.Code.{Code}
 use Rattle.code.specs.declared.pair.Pair.{Pair}
 use Rattle.queue.proofs.WellFormed.{one-held}
 use Rattle.queue.specs.Queue.{Pop, Queued, byteOf, count, heldCodes, isSingle, pairOf, pop, popCommand, popHeld, popSingle, popTwo, popWaiting, queued}
+use lib.Count.{ones, onesIn}
+use Rattle.code.specs.Channel.{channelOne}
 use Rattle.code.specs.Outcome.{answer}
+use Rattle.code.specs.Symbol.{symbolAt}
+use Rattle.code.specs.Write.{inDomain, writeCode}
+use Rattle.code.specs.declared.code.Code.the-variants as code
+use Rattle.code.specs.declared.control.CodeField.the-variants.{Absent}
+use Rattle.code.specs.declared.control.Control.the-variants as control
+use Rattle.queue.specs.Queue.{admit}
+use Rattle.queue.specs.Ring.{popRing, pushRing}
+use Rattle.queue.specs.Ring as ring
+use Rattle.sender.specs.Agreement.{queueing, afterActs}
+use Rattle.sender.specs.Agreement as act
 use Rattle.sender.proofs.Order.{sends-stay-good}
 use Rattle.sender.proofs.Refines.{send-good, send-refines}
 use Rattle.sender.specs.Doubled.{stillOwed}
 use Rattle.sender.specs.Drain.{sendTimes}
 use Rattle.sender.specs.Good.{Good}
-use Rattle.sender.specs.Sender.{idleSender, sendSender, view, wellFormed}
+use Rattle.sender.specs.Sender.{freshSender, idleSender, pushSender, sendSender, view, wellFormed}
 use Rattle.sender.specs.declared.sender.Sender.{Sender}
 use Rattle.sender.specs.SendsLeft.{afterSends, fullOf, sendsLeft}
 use Rattle.sender.specs.Sending.{Sending, isCommandPair, isIdle, repeatOf, send, sendOwed, sendPopped, sending}
@@ -148,3 +160,15 @@ pub says-idle : (s : Sender) → Good s → idleSender (sendTimes (3 * count (vi
 says-idle s g =
     let n = 3 * count (view s .queue) + 1 in
     answers-idle (sendTimes n s) true (sends-stay-good n s g .formed) (ap isIdle (sends-refine n s g) ∙ idle-after (view s))
+
+-- so it is with Á, 12 20, which the code reaches: pushed, sent once as 92 20, and pushed again
+abbrev A-acute : Code
+A-acute = code.Control (record { field = Absent; channel = channelOne; control = control.Symbol (symbolAt 16) })
+
+pub A-acute-needs-them-all : (n k : ℕ) → k < 3 * n + 1 → isIdle (afterSends k (fullOf A-acute n)) ≡ false
+unfolding ones onesIn writeCode pairOf
+A-acute-needs-them-all n k less = needs-them-all A-acute refl refl refl n k less
+
+pub such-a-state-is-reached : view (afterActs (queueing A-acute ∷ act.sending ∷ act.sending ∷ queueing A-acute ∷ []) freshSender) ≡ fullOf A-acute 1
+unfolding ones onesIn writeCode inDomain admit pairOf pop pushRing popRing ring.wellFormed wellFormed pushSender send sendSender
+such-a-state-is-reached = refl
