@@ -2,9 +2,9 @@
 -- queue gives, owed again where it is a command.
 -- Assumes nothing.
 use mathlib.Core.Bool.{true}
-use mathlib.Core.Option.{Option, none, some}
-use mathlib.Core.Path.{_≡_, refl, ap, sym, subst, _∙_}
-use Rattle.code.specs.Outcome.{Outcome, answer, refused}
+use mathlib.Core.Option.{Option}
+use mathlib.Core.Path.{_≡_, refl, ap, sym, _∙_}
+use Rattle.code.specs.Outcome.{Outcome, answer}
 use Rattle.code.specs.declared.pair.Pair.{Pair}
 use Rattle.queue.specs.Queue.{pop}
 use Rattle.queue.specs.Ring.{popRing}

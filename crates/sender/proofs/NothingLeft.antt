@@ -2,7 +2,7 @@
 -- of waiting codes, whatever state was handed in.
 -- Assumes nothing.
 use mathlib.Core.Bool.{Bool, false, _&&_}
-use mathlib.Core.Path.{_≡_, refl, ap, ap₂, sym, _∙_}
+use mathlib.Core.Path.{_≡_, refl, ap, ap₂, _∙_}
 use Prim.Native.Nat.{ℕ, _+_}
 use native.Mathlib.Omega.{arith}
 use borrow.Author.Tests.{ne-eqb}

@@ -2,17 +2,28 @@
 -- Assumes nothing.
 use borrow.Author.Needs.{needs}
 use borrow.Author.Tests.{le-leb, lt-leb}
+use lib.Dec.{leb}
+use mathlib.Core.Bool.{false}
+use mathlib.Core.Path.{_≡_, refl, ap, _∙_}
+use Prim.Native.Nat.{ℕ, _≤_, _<_}
+use Rattle.code.specs.Read.{isCommand}
 use Rattle.sender.proofs.well_formed.is_command.Statement.{statement}
 use Rattle.sender.proofs.well_formed.is_command.Tie as tie
+
+below : (a : ℕ) → a < 0x10 → false ≡ isCommand a
+below a h = rw (lt-leb 0x10 a h) refl
+
+not-below : (a : ℕ) → 0x10 ≤ a → leb a 0x1F ≡ isCommand a
+not-below a h = rw (le-leb 0x10 a h) refl
 
 strip-parity-requires : tie.Need-strip-parity-requires
 strip-parity-requires c κs = search needs
 
 returns : tie.Need-returns
-returns c = simp (← c .before .strip-parity .ensures, lt-leb 0x10 _ (c .if1 .taken))
+returns c = below (c .before .strip-parity .result) (c .if1 .taken) ∙ ap isCommand (c .before .strip-parity .ensures)
 
 returns-2 : tie.Need-returns-2
-returns-2 c = simp (← c .before .strip-parity .ensures, le-leb 0x10 _ (c .if1 .left))
+returns-2 c = not-below (c .before .strip-parity .result) (c .if1 .left) ∙ ap isCommand (c .before .strip-parity .ensures)
 
 pub is-command-spec : {M : Type 1} → statement M
 is-command-spec = tie.close (tie.spec strip-parity-requires returns returns-2)

@@ -1,7 +1,7 @@
 -- `sender::sender::Sender::write_pairs` meets its contract. The loop's invariant: what the writer comes to from here is what
 -- it came to at the start (`Filling`), from a well-formed state, with the place inside the part. The measure is what is left of the limit.
 -- Assumes nothing.
-use Prim.Native.Nat.{_+_, _-_, _≤_, _<_}
+use Prim.Native.Nat.{_-_, _≤_}
 use borrow.Author.Needs.{needs}
 use lib.ListN.{length, length-set}
 use mathlib.Core.Bool.{true}
