@@ -11,11 +11,14 @@ use Rattle.code.specs.Parity.{stripped}
 use Rattle.code.specs.Read.{isCommand, readPair}
 use Rattle.code.specs.declared.pair.Pair.{Pair}
 use Rattle.queue.proofs.Fit.{at-most-65}
-use Rattle.queue.proofs.Pairs.{popped-command, popped-is-sent, readsCommand}
-use Rattle.queue.proofs.Progress.{pop-makes-progress, work}
-use Rattle.queue.proofs.Refines.{Good, good-fits, ill-formed-count, ill-formed-pop, pop-refines}
+use Rattle.queue.proofs.Pairs.{popped-command, popped-is-sent}
+use Rattle.queue.proofs.Progress.{pop-makes-progress}
+use Rattle.queue.proofs.Refines.{good-fits, ill-formed-count, ill-formed-pop, pop-refines}
+use Rattle.queue.specs.Good.{Good}
+use Rattle.queue.specs.Progress.{work}
 use Rattle.queue.specs.Queue.{Queued, count, pop}
 use Rattle.queue.specs.Ring.{countRing, popRing, view, wellFormed}
+use Rattle.queue.specs.Sent.{readsCommand}
 use Rattle.queue.specs.declared.ring.Queue.{Queue}
 
 -- an answer that is no refusal came from a well-formed state, and is the definition's

@@ -6,14 +6,15 @@ use mathlib.Core.Bool.{Bool, true, cond}
 use mathlib.Core.List.{List, [], _∷_, _++_, append-assoc}
 use mathlib.Core.Path.{_≡_, refl, ap, ap₂, sym, subst, _∙_}
 use Prim.Native.Nat.{ℕ, _≤_}
-use Rattle.code.specs.Outcome.{Outcome, refused}
+use Rattle.code.specs.Outcome.{Outcome}
 use Rattle.code.specs.declared.code.Code.{Code}
 use Rattle.code.specs.declared.pair.Pair.{Pair}
 use Rattle.queue.proofs.Fit.{at-most-65}
 use Rattle.queue.proofs.Order.{pop-takes-from-the-front, push-puts-behind}
-use Rattle.queue.proofs.Refines.{Good, count-refines, fresh-good, good-fits, pop-good, pop-refines, push-good, push-refines}
+use Rattle.queue.proofs.Refines.{count-refines, fresh-good, good-fits, pop-good, pop-refines, push-good, push-refines}
 use Rattle.queue.proofs.WellFormed.{formed}
 use Rattle.queue.specs.Calls.{Call, pushing, popping, counting, resetting, Reply, toPush, toPop, toCount, History, after, afterAll, begun, letIn, listReplies, onList, onRing, ringReplies, takenBy}
+use Rattle.queue.specs.Good.{Good}
 use Rattle.queue.specs.Queue.{Queued, count, inside, pop, push}
 use Rattle.queue.specs.Ring.{countRing, freshRing, view, wellFormed}
 use Rattle.queue.specs.declared.ring.Queue.{Queue}
