@@ -1,6 +1,7 @@
 pub mod Answers
 pub mod FirstInFirstOut
 pub mod Fit
+pub mod IllFormed
 pub mod OneAnswer
 pub mod Order
 pub mod Pairs
