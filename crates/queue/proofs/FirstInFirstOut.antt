@@ -29,6 +29,10 @@ call-stays-good popping q g = pop-good q g
 call-stays-good counting q g = subst Good (sym (count-same q g)) g
 call-stays-good resetting q g = fresh-good
 
+pub calls-stay-good : (cs : List Call) (q : Queue) → Good q → Good (ringAfter cs q)
+calls-stay-good [] q g = g
+calls-stay-good (c ∷ cs) q g = calls-stay-good cs (onRing c q .1) (call-stays-good c q g)
+
 -- one call: the list's reply and next list are those of the ring
 pub call-agrees : (c : Call) (q : Queue) → Good q → onList c (view q) ≡ (onRing c q .0, view (onRing c q .1))
 call-agrees (pushing x) q g =
