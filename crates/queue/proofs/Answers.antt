@@ -2,7 +2,8 @@
 -- where its first stripped byte says so, a count is at most 65, a pop of a queue that is not empty makes progress, and
 -- twice as many pops as there are codes empty it.
 -- Assumes nothing.
-use mathlib.Core.Bool.{Bool, true, false}
+use mathlib.Core.Bool.{Bool, true, false, cond}
+use mathlib.Core.List.{[]}
 use mathlib.Core.Path.{_≡_, refl, ap, sym, subst, _∙_}
 use Prim.Native.Nat.{ℕ, zero, suc, _*_, _≤_, _<_}
 use native.Mathlib.Omega.{arith}
@@ -12,17 +13,18 @@ use Rattle.code.specs.Outcome.{Outcome, answer, refused}
 use Rattle.code.specs.Parity.{stripped}
 use Rattle.code.specs.Read.{isCommand, readPair}
 use Rattle.code.specs.declared.pair.Pair.{Pair}
+use Rattle.queue.proofs.Commands.{popped-says-command}
 use Rattle.queue.proofs.FirstInFirstOut.{calls-stay-good}
 use Rattle.queue.proofs.Fit.{at-most-65}
 use Rattle.queue.proofs.Pairs.{popped-command, popped-is-sent}
 use Rattle.queue.proofs.Progress.{emptied, pop-makes-progress}
 use Rattle.queue.proofs.Refines.{count-refines, good-fits, ill-formed-count, ill-formed-pop, pop-good, pop-refines}
-use Rattle.queue.specs.Calls.{popping, ringAfter}
+use Rattle.queue.specs.Calls.{popping, ringAfter, takenBy}
 use Rattle.queue.specs.Good.{Good}
 use Rattle.queue.specs.Progress.{popTimes, work}
 use Rattle.queue.specs.Queue.{Queued, count, pop}
 use Rattle.queue.specs.Ring.{countRing, popRing, view, wellFormed}
-use Rattle.queue.specs.Sent.{readsCommand}
+use Rattle.queue.specs.Sent.{readsCommand, sendsCommand}
 use Rattle.queue.specs.declared.ring.Queue.{Queue}
 
 -- an answer that is no refusal came from a well-formed state, and is the definition's
@@ -46,6 +48,14 @@ sent-pair-is-command q p answered =
     let known = pop-answer q p (wellFormed q) refl answered in
     subst (λ (x : Pair). readsCommand (readPair (x .0) (x .1)) ≡ isCommand (stripped (x .0))) (sym (known .1))
     (popped-command (view q) (good-fits q (known .0)))
+
+-- and it is one where the first code that the pop took is sent as a command
+pub sent-pair-says-command : (q : Queue) (p : Pair) → popRing q .0 ≡ answer p → isCommand (stripped (p .0)) ≡ sendsCommand (takenBy q)
+sent-pair-says-command q p answered =
+    let known = pop-answer q p (wellFormed q) refl answered in
+    ap (λ (x : Pair). isCommand (stripped (x .0))) (known .1)
+    ∙ popped-says-command (view q) (good-fits q (known .0))
+    ∙ sym (ap (λ (t : Bool). sendsCommand (cond t (pop (view q) .took) [])) (known .0))
 
 count-answer : (q : Queue) (n : ℕ) (t : Bool) → wellFormed q ≡ t → countRing q .0 ≡ answer n → n ≤ 65
 unfolding countRing

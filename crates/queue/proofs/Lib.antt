@@ -1,4 +1,6 @@
 pub mod Answers
+pub mod CommandCodes
+pub mod Commands
 pub mod FirstInFirstOut
 pub mod Fit
 pub mod IllFormed

@@ -1,14 +1,18 @@
 -- The pair that stands for the codes that a pop took and the command that it then holds, from 01's section "Queue and
 -- sender": two single codes in their order; a single code with 0x80, or with 0x20 where the command now held needs a
--- backspace; a command by itself; and with nothing taken 20 80 before the command now held, or padding. And whether a
--- pair is read as a command.
-use mathlib.Core.Bool.{Bool, false, cond, not}
+-- backspace; a command by itself; and with nothing taken 20 80 before the command now held, or padding. And which of
+-- these pairs a set is to read as commands, and whether it reads a pair as one.
+use mathlib.Core.Bool.{Bool, true, false, cond, not}
 use mathlib.Core.List.{List, [], _∷_}
 use mathlib.Core.Option.{Option, none, some}
 use Rattle.code.specs.Code.{needsBackspace}
 use Rattle.code.specs.Outcome.{Outcome, answer, refused}
+use Rattle.code.specs.Read.{isCommand}
 use Rattle.code.specs.Write.{pair}
 use Rattle.code.specs.declared.code.Code.{Code}
+use Rattle.code.specs.declared.code.Code.the-variants as code
+use Rattle.code.specs.declared.control.Control.{Control}
+use Rattle.code.specs.declared.control.Control.the-variants as control
 use Rattle.code.specs.declared.pair.Pair.{Pair}
 use Rattle.queue.specs.Queue.{byteOf, isSingle, pairOf}
 
@@ -18,6 +22,27 @@ pairFor [] (some c) = pair 0x20 0x80
 pairFor (x ∷ []) none = cond (isSingle x) (pair (byteOf x) 0x80) (pairOf x)
 pairFor (x ∷ []) (some c) = pair (byteOf x) (cond (needsBackspace c) 0x20 0x80)
 pairFor (x ∷ y ∷ rest) h = pair (byteOf x) (byteOf y)
+
+-- which codes are sent as commands: every control code but `Unknown`, and `Unknown`, of one byte or two, where its own
+-- first byte is 10 to 1F
+abbrev pub isCommandControl : Control → Bool
+isCommandControl (control.MidRow m) = true
+isCommandControl (control.Symbol s) = true
+isCommandControl (control.Command c) = true
+isCommandControl (control.Tab t) = true
+isCommandControl (control.Preamble p) = true
+isCommandControl (control.Unknown a b) = isCommand a
+
+abbrev pub isCommandCode : Code → Bool
+isCommandCode code.Nul = false
+isCommandCode (code.Control c) = isCommandControl (c .control)
+isCommandCode (code.Letter l) = false
+isCommandCode (code.Unknown b) = isCommand b
+
+-- the first code that a pop took decides; with none taken, 20 80 and 80 80 are no commands
+abbrev pub sendsCommand : List Code → Bool
+sendsCommand [] = false
+sendsCommand (x ∷ rest) = isCommandCode x
 
 -- whether a pair that was read is a command
 abbrev pub readsCommand : Outcome (Code × Code) → Bool
