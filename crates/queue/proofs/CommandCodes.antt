@@ -1,5 +1,6 @@
 -- Which codes go out as command pairs, by the definition of writing and the code layer's laws on bytes: field, channel
--- and parity leave a first byte of 10 to 1F one, and any other another; and each row of symbols and of preambles has one.
+-- and parity keep a first byte of 10 to 1F in that range and any other out of it, and each row of symbols and of
+-- preambles begins with one.
 -- Assumes nothing.
 use mathlib.Core.Bool.{Bool, true, false, cond, _&&_}
 use mathlib.Core.Path.{_≡_, refl, ap, sym, _∙_}
