@@ -1,5 +1,6 @@
 pub mod Agree
 pub mod Bytes
+pub mod CommandCodes
 pub mod First
 pub mod Increasing
 pub mod Keys

@@ -12,7 +12,7 @@ use Rattle.code.specs.MidRow.{midRowNumber}
 use Rattle.code.specs.Outcome.{Outcome, answer, refused}
 use Rattle.code.specs.Parity.{withParity}
 use Rattle.code.specs.Preamble.{styleOf}
-use Rattle.code.specs.Read.{rowPrefixes, within}
+use Rattle.code.specs.Read.{isCommand, rowPrefixes, within}
 use Rattle.code.specs.Symbol.{symbolRowNumber}
 use Rattle.code.specs.declared.channel.Channel.{Channel}
 use Rattle.code.specs.declared.code.Code.{Code}
@@ -147,3 +147,19 @@ abbrev pub bytesOutcome : Bytes → Outcome Pair
 bytesOutcome (bytes.Are p) = answer p
 bytesOutcome bytes.UnknownByte = refused 2
 bytesOutcome bytes.NoSuchRow = refused 3
+
+-- which codes are sent as commands: every control code but `Unknown`, and `Unknown`, of one byte or two, where its own
+-- first byte is 10 to 1F
+abbrev pub isCommandControl : Control → Bool
+isCommandControl (control.MidRow m) = true
+isCommandControl (control.Symbol s) = true
+isCommandControl (control.Command c) = true
+isCommandControl (control.Tab t) = true
+isCommandControl (control.Preamble p) = true
+isCommandControl (control.Unknown a b) = isCommand a
+
+abbrev pub isCommandCode : Code → Bool
+isCommandCode code.Nul = false
+isCommandCode (code.Control c) = isCommandControl (c .control)
+isCommandCode (code.Letter l) = false
+isCommandCode (code.Unknown b) = isCommand b

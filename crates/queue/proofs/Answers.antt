@@ -1,21 +1,30 @@
 -- What every answer of the ring is known by, whatever state was handed in: a popped pair has odd parity and is a command
--- where its first stripped byte says so, a count is at most 65, and a pop of a queue that is not empty makes progress.
+-- where its first stripped byte says so, a count is at most 65, a pop of a queue that is not empty makes progress, and
+-- twice as many pops as there are codes empty it.
 -- Assumes nothing.
-use mathlib.Core.Bool.{Bool, true, false}
+use mathlib.Core.Bool.{Bool, true, false, cond}
+use mathlib.Core.List.{[]}
 use mathlib.Core.Path.{_≡_, refl, ap, sym, subst, _∙_}
-use Prim.Native.Nat.{ℕ, _≤_, _<_}
+use Prim.Native.Nat.{ℕ, zero, suc, _*_, _≤_, _<_}
 use native.Mathlib.Omega.{arith}
+use lib.ListN.{replicate}
 use Rattle.code.proofs.Written.{SentPair}
 use Rattle.code.specs.Outcome.{Outcome, answer, refused}
 use Rattle.code.specs.Parity.{stripped}
 use Rattle.code.specs.Read.{isCommand, readPair}
 use Rattle.code.specs.declared.pair.Pair.{Pair}
+use Rattle.queue.proofs.Commands.{popped-says-command}
+use Rattle.queue.proofs.FirstInFirstOut.{calls-stay-good}
 use Rattle.queue.proofs.Fit.{at-most-65}
-use Rattle.queue.proofs.Pairs.{popped-command, popped-is-sent, readsCommand}
-use Rattle.queue.proofs.Progress.{pop-makes-progress, work}
-use Rattle.queue.proofs.Refines.{Good, good-fits, ill-formed-count, ill-formed-pop, pop-refines}
+use Rattle.queue.proofs.Pairs.{popped-command, popped-is-sent}
+use Rattle.queue.proofs.Progress.{emptied, pop-makes-progress}
+use Rattle.queue.proofs.Refines.{count-refines, good-fits, ill-formed-count, ill-formed-pop, pop-good, pop-refines}
+use Rattle.queue.specs.Calls.{popping, ringAfter, takenBy}
+use Rattle.queue.specs.Good.{Good}
+use Rattle.queue.specs.Progress.{popTimes, work}
 use Rattle.queue.specs.Queue.{Queued, count, pop}
 use Rattle.queue.specs.Ring.{countRing, popRing, view, wellFormed}
+use Rattle.queue.specs.Sent.{readsCommand, sendsCommand}
 use Rattle.queue.specs.declared.ring.Queue.{Queue}
 
 -- an answer that is no refusal came from a well-formed state, and is the definition's
@@ -40,6 +49,14 @@ sent-pair-is-command q p answered =
     subst (λ (x : Pair). readsCommand (readPair (x .0) (x .1)) ≡ isCommand (stripped (x .0))) (sym (known .1))
     (popped-command (view q) (good-fits q (known .0)))
 
+-- and it is one where the first code that the pop took is sent as a command
+pub sent-pair-says-command : (q : Queue) (p : Pair) → popRing q .0 ≡ answer p → isCommand (stripped (p .0)) ≡ sendsCommand (takenBy q)
+sent-pair-says-command q p answered =
+    let known = pop-answer q p (wellFormed q) refl answered in
+    ap (λ (x : Pair). isCommand (stripped (x .0))) (known .1)
+    ∙ popped-says-command (view q) (good-fits q (known .0))
+    ∙ sym (ap (λ (t : Bool). sendsCommand (cond t (pop (view q) .took) [])) (known .0))
+
 count-answer : (q : Queue) (n : ℕ) (t : Bool) → wellFormed q ≡ t → countRing q .0 ≡ answer n → n ≤ 65
 unfolding countRing
 count-answer q n true e answered =
@@ -58,3 +75,21 @@ pub ring-makes-progress : (q : Queue) → Good q → 0 < count (view q) → work
 ring-makes-progress q g more =
     let next = ap (λ (r : Outcome Pair × Queued). work (r .1)) (pop-refines q g) in
     omega (arith, next, pop-makes-progress (view q) more)
+
+-- pops in a row
+pops-refine : (n : ℕ) (q : Queue) → Good q → view (ringAfter (replicate n popping) q) ≡ popTimes n (view q)
+pops-refine zero q g = refl
+pops-refine (suc n) q g =
+    pops-refine n (popRing q .1) (pop-good q g) ∙ ap (λ (r : Outcome Pair × Queued). popTimes n (r .1)) (pop-refines q g)
+
+pub ring-emptied : (q : Queue) → Good q → count (view (ringAfter (replicate (2 * count (view q)) popping) q)) ≡ 0
+ring-emptied q g = ap count (pops-refine (2 * count (view q)) q g) ∙ emptied (view q)
+
+-- the same by what `n_codes` answers before and after
+pub counted-down-to-none : (q : Queue) (n : ℕ) → Good q → countRing q .0 ≡ answer n → countRing (ringAfter (replicate (2 * n) popping) q) .0 ≡ answer 0
+counted-down-to-none q n g answered =
+    let told : answer (count (view q)) ≡ answer n = sym (ap (λ (r : Outcome ℕ × Queue). r .0) (count-refines q g)) ∙ answered in
+    let many : count (view q) ≡ n = cc in
+    let next = ringAfter (replicate (2 * n) popping) q in
+    ap (λ (r : Outcome ℕ × Queue). r .0) (count-refines next (calls-stay-good (replicate (2 * n) popping) q g))
+    ∙ ap answer (subst (λ (k : ℕ). count (view (ringAfter (replicate (2 * k) popping) q)) ≡ 0) many (ring-emptied q g))

@@ -6,14 +6,15 @@ use mathlib.Core.Bool.{Bool, true, cond}
 use mathlib.Core.List.{List, [], _∷_, _++_, append-assoc}
 use mathlib.Core.Path.{_≡_, refl, ap, ap₂, sym, subst, _∙_}
 use Prim.Native.Nat.{ℕ, _≤_}
-use Rattle.code.specs.Outcome.{Outcome, refused}
+use Rattle.code.specs.Outcome.{Outcome}
 use Rattle.code.specs.declared.code.Code.{Code}
 use Rattle.code.specs.declared.pair.Pair.{Pair}
 use Rattle.queue.proofs.Fit.{at-most-65}
 use Rattle.queue.proofs.Order.{pop-takes-from-the-front, push-puts-behind}
-use Rattle.queue.proofs.Refines.{Good, count-refines, fresh-good, good-fits, pop-good, pop-refines, push-good, push-refines}
+use Rattle.queue.proofs.Refines.{count-refines, fresh-good, good-fits, pop-good, pop-refines, push-good, push-refines}
 use Rattle.queue.proofs.WellFormed.{formed}
-use Rattle.queue.specs.Calls.{Call, pushing, popping, counting, resetting, Reply, toPush, toPop, toCount, History, after, afterAll, begun, letIn, listReplies, onList, onRing, ringReplies, takenBy}
+use Rattle.queue.specs.Calls.{Call, pushing, popping, counting, resetting, Reply, toPush, toPop, toCount, History, after, afterAll, begun, letIn, listReplies, onList, onRing, ringAfter, ringReplies, takenBy}
+use Rattle.queue.specs.Good.{Good}
 use Rattle.queue.specs.Queue.{Queued, count, inside, pop, push}
 use Rattle.queue.specs.Ring.{countRing, freshRing, view, wellFormed}
 use Rattle.queue.specs.declared.ring.Queue.{Queue}
@@ -27,6 +28,10 @@ call-stays-good (pushing x) q g = push-good q x g
 call-stays-good popping q g = pop-good q g
 call-stays-good counting q g = subst Good (sym (count-same q g)) g
 call-stays-good resetting q g = fresh-good
+
+pub calls-stay-good : (cs : List Call) (q : Queue) → Good q → Good (ringAfter cs q)
+calls-stay-good [] q g = g
+calls-stay-good (c ∷ cs) q g = calls-stay-good cs (onRing c q .1) (call-stays-good c q g)
 
 -- one call: the list's reply and next list are those of the ring
 pub call-agrees : (c : Call) (q : Queue) → Good q → onList c (view q) ≡ (onRing c q .0, view (onRing c q .1))
@@ -44,6 +49,17 @@ ring-answers-as-the-list [] q g = refl
 ring-answers-as-the-list (c ∷ cs) q g =
     ap (λ (l : List Reply). onRing c q .0 ∷ l) (ring-answers-as-the-list cs (onRing c q .1) (call-stays-good c q g))
     ∙ ap (λ (r : Reply × Queued). r .0 ∷ listReplies cs (r .1)) (sym (call-agrees c q g))
+
+-- the ring of a history is the ring after its calls
+ring-of-call : (c : Call) (h : History) → after c h .ring ≡ onRing c (h .ring) .1
+ring-of-call (pushing x) h = refl
+ring-of-call popping h = refl
+ring-of-call counting h = refl
+ring-of-call resetting h = refl
+
+pub ring-of-history : (cs : List Call) (h : History) → afterAll cs h .ring ≡ ringAfter cs (h .ring)
+ring-of-history [] h = refl
+ring-of-history (c ∷ cs) h = ring-of-history cs (after c h) ∙ ap (ringAfter cs) (ring-of-call c h)
 
 -- what every history keeps
 pub record Kept (h : History) : Type 0 where

@@ -1,4 +1,4 @@
--- The list of a well-formed queue, and that a push and a pop leave one: never above 64 waiting, each waiting code one
+-- A push and a pop leave the list of a well-formed queue one: never above 64 waiting, each waiting code one
 -- that may wait, and no held code or one that may be held.
 -- Assumes nothing.
 use mathlib.Core.Bool.{Bool, true, false, _&&_, not}
@@ -15,13 +15,9 @@ use Rattle.code.specs.Outcome.{Outcome, answer, refused}
 use Rattle.code.specs.Write.{inDomain}
 use Rattle.code.specs.declared.code.Code.{Code}
 use Rattle.queue.proofs.WellFormed.{both-left, both-right, one-held, stored-has-room}
+use Rattle.queue.specs.Good.{Fit}
 use Rattle.queue.specs.Queue.{Queued, queued, admit, admitBy, count, empty, entered, isAnswer, isFull, isInside, isNul, isSingle, mayBeHeld, mayWait, pop, popCommand, popHeld, popSingle, popTwo, popWaiting, push}
-use Rattle.queue.specs.Ring.{allMayWait, heldFits}
-
-pub record Fit (v : Queued) : Type 0 where
-  pub size : length (v .waiting) ≤ 64
-  pub held : heldFits (v .held) ≡ true
-  pub codes : allMayWait (v .waiting) ≡ true
+use Rattle.queue.specs.Ring.{allMayWait}
 
 pub empty-fits : Fit empty
 empty-fits = record { size = lit≤ tt; held = refl; codes = refl }

@@ -1,6 +1,8 @@
 pub mod Answers
+pub mod Commands
 pub mod FirstInFirstOut
 pub mod Fit
+pub mod IllFormed
 pub mod OneAnswer
 pub mod Order
 pub mod Pairs

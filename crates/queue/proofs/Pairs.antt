@@ -18,10 +18,11 @@ use Rattle.code.specs.Read.{isCommand, readPair}
 use Rattle.code.specs.Write.{pair, writeCode}
 use Rattle.code.specs.declared.code.Code.{Code}
 use Rattle.code.specs.declared.pair.Pair.{Pair}
-use Rattle.queue.proofs.Fit.{Fit}
 use Rattle.queue.proofs.WellFormed.{both-left, both-right}
+use Rattle.queue.specs.Good.{Fit}
 use Rattle.queue.specs.Queue.{Queued, isAnswer, isInside, isNul, isSingle, mayWait, pairOf, pop, popCommand, popHeld, popSingle, popTwo, popWaiting, queued, sent}
 use Rattle.queue.specs.Ring.{allMayWait}
+use Rattle.queue.specs.Sent.{readsCommand}
 
 written : (c : Code) (o : Outcome (Pair × ℕ)) → writeCode c ≡ o → isAnswer (settled o) ≡ true → SentPair (sent o)
 written c (answer x) e inside = written-is-sent c (x .0) (x .1) e .0
@@ -76,11 +77,6 @@ held-sent none (x ∷ rest) f = list-sent x rest (isSingle x) refl (f .codes)
 pub popped-is-sent : (v : Queued) → Fit v → SentPair (pop v .pair)
 unfolding pop
 popped-is-sent v f = held-sent (v .held) (v .waiting) f
-
--- whether a pair is read as a command
-abbrev pub readsCommand : Outcome (Code × Code) → Bool
-readsCommand (answer x) = not (isSingle (x .0))
-readsCommand (refused n) = false
 
 read-by : (p : Pair) (t : Bool) → SentPair p → isCommand (stripped (p .0)) ≡ t → readsCommand (readPair (p .0) (p .1)) ≡ t
 read-by p true s e = ap readsCommand (read-as-command (p .0) (p .1) (s .first .odd) (s .second .odd) e)

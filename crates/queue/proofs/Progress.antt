@@ -5,16 +5,14 @@ use mathlib.Core.Bool.{Bool, true, false}
 use mathlib.Core.List.{List, [], _∷_}
 use mathlib.Core.Option.{Option, none, some}
 use mathlib.Core.Path.{_≡_, refl}
-use Prim.Native.Nat.{ℕ, zero, suc, _+_, _*_, _≤_, _<_}
+use Prim.Native.Nat.{ℕ, zero, suc, _*_, _≤_, _<_}
 use native.Mathlib.Decide.{decLt}
 use native.Mathlib.Omega.{arith}
 use lib.ListN.{length}
 use Rattle.code.specs.Code.{needsBackspace}
 use Rattle.code.specs.declared.code.Code.{Code}
-use Rattle.queue.specs.Queue.{Pop, Queued, count, heldCodes, isSingle, pop, popCommand, popHeld, popSingle, popTwo, popWaiting, queued}
-
-abbrev pub work : Queued → ℕ
-work v = 2 * length (v .waiting) + length (heldCodes (v .held))
+use Rattle.queue.specs.Progress.{popTimes, work}
+use Rattle.queue.specs.Queue.{Pop, Queued, count, isSingle, pop, popCommand, popHeld, popSingle, popTwo, popWaiting, queued}
 
 abbrev Less : Pop → ℕ → Type 0
 Less p n = work (p .next) < n
@@ -43,10 +41,6 @@ held-less none (x ∷ rest) more = omega (arith, waiting-less x rest (isSingle x
 pub pop-makes-progress : (v : Queued) → 0 < count v → work (pop v .next) < work v
 unfolding pop
 pop-makes-progress v more = held-less (v .held) (v .waiting) more
-
-abbrev pub popTimes : ℕ → Queued → Queued
-popTimes zero v = v
-popTimes (suc n) v = popTimes n (pop v .next)
 
 pub empty-stays : (v : Queued) → count v ≡ 0 → count (pop v .next) ≡ 0
 unfolding pop

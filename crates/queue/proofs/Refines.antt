@@ -5,29 +5,20 @@ use mathlib.Core.Bool.{Bool, true, false, cond}
 use mathlib.Core.List.{List, [], _∷_, _++_}
 use mathlib.Core.Option.{Option, none, some}
 use mathlib.Core.Path.{_≡_, refl, ap, ap₂, sym, subst, _∙_}
-use Prim.Native.Nat.{ℕ, suc, _+_, _-_, _≤_, _<_}
+use Prim.Native.Nat.{ℕ, suc, _+_, _-_, _<_}
 use native.Mathlib.Omega.{arith}
 use lib.ListN.{drop, length, length-set}
 use Rattle.code.specs.Code.{needsBackspace}
 use Rattle.code.specs.Outcome.{Outcome, answer, refused}
 use Rattle.code.specs.declared.code.Code.{Code}
 use Rattle.code.specs.declared.pair.Pair.{Pair}
-use Rattle.queue.proofs.Fit.{Fit, pop-fits, push-fits}
+use Rattle.queue.proofs.Fit.{pop-fits, push-fits}
 use Rattle.queue.proofs.Places.{freed-in-front, how-many, over-the-seam, stored-behind}
 use Rattle.queue.proofs.WellFormed.{formed, stored-has-room, well-formed}
+use Rattle.queue.specs.Good.{Fit, Good, seen}
 use Rattle.queue.specs.Queue.{Pop, Queued, admit, count, entered, isSingle, pop, popCommand, popHeld, popSingle, popTwo, popWaiting, push, queued}
-use Rattle.queue.specs.Ring.{countRing, freeing, freshRing, heldAs, heldIn, popRing, pushRing, stored, turn, view, waitingIn, wellFormed}
-use Rattle.queue.specs.declared.pop.Turn.{Turn}
+use Rattle.queue.specs.Ring.{countRing, freshRing, gone, heldAs, heldIn, leftIn, popRing, pushRing, stored, view, waitingIn, wellFormed}
 use Rattle.queue.specs.declared.ring.Queue.{Queue}
-
--- a well-formed state, of the 64 places that every value of the type has
-pub record Good (q : Queue) : Type 0 where
-  pub formed : wellFormed q ≡ true
-  pub places : length (q .slots) ≡ 64
-
--- an answer, and the list of the state beside it
-abbrev pub seen : {A : Type 0} → Outcome A × Queue → Outcome A × Queued
-seen r = (r .0, view (r .1))
 
 -- the list of a well-formed ring, and back
 pub good-fits : (q : Queue) → wellFormed q ≡ true → Fit (view q)
@@ -136,29 +127,26 @@ held-back : (h : Option Code) → heldIn (heldAs h) ≡ h
 held-back none = refl
 held-back (some c) = refl
 
-view-of-freed : (q : Queue) (t : Turn) → t .freed ≤ q .waiting → view (freeing q t) ≡ queued (drop (t .freed) (waitingIn q)) (heldIn (t .held))
-view-of-freed q t h =
-    ap (λ (l : List Code). queued l (heldIn (t .held)))
-    (over-the-seam (q .slots) (q .start + t .freed) (q .waiting - t .freed)
-    ∙ freed-in-front (q .slots) (q .start) (q .waiting) (t .freed) h)
+waiting-left : (q : Queue) → waitingIn (leftIn q) ≡ pop (view q) .next .waiting
+waiting-left q =
+    over-the-seam (q .slots) (q .start + gone q) (q .waiting - gone q)
+    ∙ freed-in-front (q .slots) (q .start) (q .waiting) (gone q) (omega (arith, how-many (q .slots) (q .start) (q .waiting)))
+    ∙ pop-drops (view q)
 
-pub view-of-turn : (q : Queue) → view (freeing q (turn (view q))) ≡ pop (view q) .next
-view-of-turn q =
-    view-of-freed q (turn (view q)) (omega (arith, how-many (q .slots) (q .start) (q .waiting)))
-    ∙ ap₂ queued (pop-drops (view q)) (held-back (pop (view q) .next .held))
+pub view-of-left : (q : Queue) → view (leftIn q) ≡ pop (view q) .next
+view-of-left q = ap₂ queued (waiting-left q) (held-back (pop (view q) .next .held))
 
 pub pop-refines : (q : Queue) → Good q → seen (popRing q) ≡ (answer (pop (view q) .pair), pop (view q) .next)
 unfolding popRing
 pop-refines q g =
-    ap (λ (t : Bool). seen (cond t (answer (turn (view q) .pair), freeing q (turn (view q))) (refused 12, q))) (g .formed)
-    ∙ ap {B = Outcome Pair × Queued} (λ (v : Queued). (answer (pop (view q) .pair), v)) (view-of-turn q)
+    ap (λ (t : Bool). seen (cond t (answer (pop (view q) .pair), leftIn q) (refused 12, q))) (g .formed)
+    ∙ ap {B = Outcome Pair × Queued} (λ (v : Queued). (answer (pop (view q) .pair), v)) (view-of-left q)
 
 pub pop-good : (q : Queue) → Good q → Good (popRing q .1)
 unfolding popRing
 pop-good q g =
-    let next = freeing q (turn (view q)) in
-    let done : Outcome Pair × Queue = (answer (turn (view q) .pair), next) in
-    let here : popRing q .1 ≡ next = ap (λ (t : Bool). cond t done (refused 12, q) .1) (g .formed) in
+    let done : Outcome Pair × Queue = (answer (pop (view q) .pair), leftIn q) in
+    let here : popRing q .1 ≡ leftIn q = ap (λ (t : Bool). cond t done (refused 12, q) .1) (g .formed) in
     let fits = subst (λ (r : Outcome Pair × Queued). Fit (r .1)) (sym (pop-refines q g)) (pop-fits (view q) (good-fits q (g .formed))) in
     next-good (popRing q .1)
     (omega (arith, ap (λ (r : Queue). r .start) here))

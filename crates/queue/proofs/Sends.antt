@@ -1,17 +1,17 @@
 -- What a pop sends is what it took: the pair is told by the codes taken and the command then held. With first in first
 -- out, no code is sent that was not accepted, none is left out, and the bytes are in order.
 -- Assumes nothing.
-use mathlib.Core.Bool.{Bool, true, false, cond}
+use mathlib.Core.Bool.{Bool, true, false}
 use mathlib.Core.List.{List, [], _∷_}
 use mathlib.Core.Option.{Option, none, some}
-use mathlib.Core.Path.{_≡_, refl, ap, _∙_}
+use mathlib.Core.Path.{_≡_, refl, ap}
 use Prim.Native.Nat.{ℕ}
 use borrow.Author.Tests.{eqb-true}
 use lib.Dec.{eqb}
 use Rattle.code.specs.Code.{byteLen, needsBackspace}
 use Rattle.code.specs.declared.code.Code.{Code}
-use Rattle.queue.proofs.Fit.{Fit}
 use Rattle.queue.proofs.WellFormed.{both-left}
+use Rattle.queue.specs.Good.{Fit}
 use Rattle.queue.specs.Queue.{isInside, isSingle, mayBeHeld, Pop, pop, popCommand, popHeld, popSingle, popTwo, popWaiting, Queued, queued}
 use Rattle.queue.specs.Sent.{pairFor}
 

@@ -12,7 +12,8 @@ use Rattle.code.specs.Code.{needsBackspace}
 use Rattle.code.specs.declared.code.Code.{Code}
 use Rattle.queue.proofs.Places.{first-waits}
 use Rattle.queue.specs.Queue.{isSingle, pairOf, pop, popCommand, popSingle, popTwo, queued}
-use Rattle.queue.specs.Ring.{codeAt, codesFrom, turn, turnOf}
+use Rattle.queue.specs.Ring.{codeAt, codesFrom}
+use Rattle.queue.specs.Turn.{turn, turnOf}
 use Rattle.queue.specs.declared.ring.Held.the-variants as held
 use Rattle.queue.specs.declared.ring.Slot.{Slot}
 

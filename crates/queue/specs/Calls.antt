@@ -1,8 +1,10 @@
--- Calls in any order, as the ring answers them and as the list does; and their history: which codes were accepted since
--- the state was fresh or last reset, NUL aside, and which the pops took. From 01's section "Queue and sender".
+-- Calls in any order, as the ring answers them and as the list does, and as an ill-formed state is to be answered; and
+-- their history: which codes were accepted since the state was fresh or last reset, NUL aside, and which the pops took.
+-- From 01's section "Queue and sender" and its refusal 12.
 use Prim.Native.Nat.{ℕ}
-use mathlib.Core.Bool.{cond}
+use mathlib.Core.Bool.{Bool, true, false, cond, _&&_, not}
 use mathlib.Core.List.{List, [], _∷_, _++_}
+use mathlib.Core.Path.{_≡_}
 use Rattle.code.specs.Outcome.{Outcome, answer, refused}
 use Rattle.code.specs.declared.code.Code.{Code}
 use Rattle.code.specs.declared.pair.Pair.{Pair}
@@ -45,6 +47,28 @@ abbrev pub listReplies : List Call → Queued → List Reply
 listReplies [] v = []
 listReplies (c ∷ cs) v = onList c v .0 ∷ listReplies cs (onList c v .1)
 
+-- the ring after a sequence of calls
+abbrev pub ringAfter : List Call → Queue → Queue
+ringAfter [] q = q
+ringAfter (c ∷ cs) q = ringAfter cs (onRing c q .1)
+
+-- the reply that an ill-formed state is to get: 12 to every call but a reset, which never refuses
+abbrev pub refusal : Call → Reply
+refusal (pushing c) = toPush (refused 12)
+refusal popping = toPop (refused 12)
+refusal counting = toCount (refused 12)
+refusal resetting = toReset
+
+abbrev pub isReset : Call → Bool
+isReset (pushing c) = false
+isReset popping = false
+isReset counting = false
+isReset resetting = true
+
+abbrev pub noReset : List Call → Bool
+noReset [] = true
+noReset (c ∷ cs) = not (isReset c) && noReset cs
+
 pub record History : Type 0 where
   pub accepted : List Code
   pub took : List Code
@@ -80,3 +104,7 @@ afterAll (c ∷ cs) h = afterAll cs (after c h)
 -- a history that begins with a state: what is inside it counts as accepted
 abbrev pub begun : Queue → History
 begun q = record { accepted = inside (view q); took = []; ring = q }
+
+-- accepted is, in order, what the pops took, then the held code, then those waiting
+abbrev pub InOrder : History → Type 0
+InOrder h = h .accepted ≡ h .took ++ inside (view (h .ring))

@@ -1,7 +1,7 @@
 -- The ring: which list it stands for, which states are well formed (01's refusal 12), and the record that each call
 -- leaves. What a call answers is the list's definition at the ring's list; only where the codes lie is said here.
 use Prim.Native.Nat.{ℕ, zero, suc, _+_, _-_, _%_}
-use mathlib.Core.Bool.{Bool, true, false, cond, _&&_}
+use mathlib.Core.Bool.{Bool, true, cond, _&&_}
 use mathlib.Core.List.{List, [], _∷_}
 use mathlib.Core.Option.{Option, none, some}
 use lib.Dec.{leb, ltb}
@@ -10,16 +10,13 @@ use Rattle.code.specs.Outcome.{Outcome, answer, refused}
 use Rattle.code.specs.declared.code.Code.{Code}
 use Rattle.code.specs.declared.code.Code.the-variants as code
 use Rattle.code.specs.declared.pair.Pair.{Pair}
-use Rattle.queue.specs.Queue.{Queued, queued, Pop, count, mayWait, mayBeHeld, admit, entered, pop}
+use Rattle.queue.specs.Queue.{Queued, queued, count, mayWait, mayBeHeld, admit, entered, pop}
 use Rattle.queue.specs.declared.count.CountAnswer.{CountAnswer}
 use Rattle.queue.specs.declared.count.CountAnswer.the-variants as count-answer
 use Rattle.queue.specs.declared.count.Counted.{Counted}
 use Rattle.queue.specs.declared.pop.PopAnswer.{PopAnswer}
 use Rattle.queue.specs.declared.pop.PopAnswer.the-variants as pop-answer
 use Rattle.queue.specs.declared.pop.Popped.{Popped}
-use Rattle.queue.specs.declared.pop.Turn.{Turn}
-use Rattle.queue.specs.declared.push.Admission.{Admission}
-use Rattle.queue.specs.declared.push.Admission.the-variants as admission
 use Rattle.queue.specs.declared.push.PushAnswer.{PushAnswer}
 use Rattle.queue.specs.declared.push.PushAnswer.the-variants as push-answer
 use Rattle.queue.specs.declared.push.Pushed.{Pushed}
@@ -88,23 +85,20 @@ stored q c = record {
 unfoldable pub pushRing : Queue → Code → Outcome Unit × Queue
 pushRing q c = tested q (entered (admit c (q .waiting)) (stored q c) q)
 
--- a pop changes no place of the ring: it frees as many in front as codes left the list
-abbrev pub turnOf : ℕ → Pop → Turn
-turnOf n p = record { pair = p .pair; freed = n - length (p .next .waiting); held = heldAs (p .next .held) }
+-- a pop changes no place of the ring: as many in front are free again as codes left the list
+abbrev pub gone : Queue → ℕ
+gone q = length (waitingIn q) - length (pop (view q) .next .waiting)
 
-abbrev pub turn : Queued → Turn
-turn v = turnOf (length (v .waiting)) (pop v)
-
-abbrev pub freeing : Queue → Turn → Queue
-freeing q t = record {
+abbrev pub leftIn : Queue → Queue
+leftIn q = record {
   slots = q .slots;
-  start = (q .start + t .freed) % 64;
-  waiting = q .waiting - t .freed;
-  held = t .held;
+  start = (q .start + gone q) % 64;
+  waiting = q .waiting - gone q;
+  held = heldAs (pop (view q) .next .held);
 }
 
 unfoldable pub popRing : Queue → Outcome Pair × Queue
-popRing q = tested q (answer (turn (view q) .pair), freeing q (turn (view q)))
+popRing q = tested q (answer (pop (view q) .pair), leftIn q)
 
 unfoldable pub countRing : Queue → Outcome ℕ × Queue
 countRing q = tested q (answer (count (view q)), q)
@@ -133,10 +127,3 @@ countAnswerOutcome count-answer.IllFormed = refused 12
 
 abbrev pub countOutcome : Counted → Outcome ℕ × Queue
 countOutcome r = (countAnswerOutcome (r .answer), r .queue)
-
-abbrev pub admissionOutcome : Admission → Outcome Bool
-admissionOutcome admission.Stored = answer true
-admissionOutcome admission.NotStored = answer false
-admissionOutcome admission.UnknownByte = refused 2
-admissionOutcome admission.NoSuchRow = refused 3
-admissionOutcome admission.Full = refused 7

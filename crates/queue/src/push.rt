@@ -1,9 +1,10 @@
 // Putting a code into the queue.
 ghost use mathlib.Core.Path.{_≡_};
 ghost use Prim.Native.Nat.{_<_};
+ghost use Rattle.queue.specs.Admission.{admissionOutcome};
 ghost use Rattle.queue.specs.Queue.{admitBy, isFull};
 ghost use Rattle.code.specs.Write.{domainOutcome};
-ghost use Rattle.queue.specs.Ring.{admissionOutcome, pushOutcome, pushRing, stored};
+ghost use Rattle.queue.specs.Ring.{pushOutcome, pushRing, stored};
 use crate::ring::Queue;
 use crate::ring::Slot;
 use crate::well_formed::is_nul;

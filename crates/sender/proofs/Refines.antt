@@ -11,10 +11,12 @@ use Rattle.code.proofs.Written.{SentPair}
 use Rattle.code.specs.Outcome.{Outcome, answer, refused}
 use Rattle.code.specs.declared.code.Code.{Code}
 use Rattle.code.specs.declared.pair.Pair.{Pair}
-use Rattle.queue.proofs.Fit.{Fit, pop-fits}
+use Rattle.queue.proofs.Fit.{pop-fits}
 use Rattle.queue.proofs.Pairs.{popped-is-sent}
 use Rattle.queue.proofs.Refines as ring
 use Rattle.queue.proofs.WellFormed.{both-left, both-right}
+use Rattle.queue.specs.Good.{Fit}
+use Rattle.queue.specs.Good as queue-good
 use Rattle.queue.specs.Queue.{Queued, pop}
 use Rattle.queue.specs.Ring.{freeing, popRing, pushRing, turn}
 use Rattle.queue.specs.Ring as queue
@@ -38,7 +40,7 @@ pub well-formed : (q : Queue) (o : Owed) → queue.wellFormed q ≡ true → owe
 unfolding wellFormed
 well-formed q o formed fits = rw (formed, fits) refl
 
-queue-good : (s : Sender) → Good s → ring.Good (s .queue)
+queue-good : (s : Sender) → Good s → queue-good.Good (s .queue)
 queue-good s g = record { formed = queue-formed s (g .formed); places = g .places }
 
 pub fresh-good : Good freshSender
@@ -75,7 +77,7 @@ unfolding popRing
 popped-as q e = rw e refl
 
 popped-view : (q : Queue) → queue.wellFormed q ≡ true → queue.view (popRing q .1) ≡ pop (queue.view q) .next
-popped-view q e = ap queue.view (popped-as q e) ∙ ring.view-of-turn q
+popped-view q e = ap queue.view (popped-as q e) ∙ ring.view-of-left q
 
 popped-formed : (q : Queue) → queue.wellFormed q ≡ true → queue.wellFormed (popRing q .1) ≡ true
 popped-formed q e =

@@ -3,7 +3,7 @@
 use borrow.Author.Needs.{needs}
 use mathlib.Core.Path.{ap, sym, _∙_}
 use Rattle.code.specs.Write.{writtenOutcome}
-use Rattle.queue.specs.Queue.{pairOf, sent, pop}
+use Rattle.queue.specs.Queue.{pairOf, sent}
 use Rattle.queue.proofs.pop.pair_of.Statement.{statement}
 use Rattle.queue.proofs.pop.pair_of.Tie as tie
 

@@ -2,6 +2,7 @@
 -- Assumes nothing.
 use borrow.Author.Needs.{needs}
 use borrow.Author.Tests.{eq-eqb, ne-eqb}
+use mathlib.Core.Path.{refl}
 use Rattle.queue.proofs.pop.single_turn.Statement.{statement}
 use Rattle.queue.proofs.pop.single_turn.Tie as tie
 
@@ -15,16 +16,16 @@ pair-of-requires-2 : tie.Need-pair-of-requires-2
 pair-of-requires-2 c κs = search needs
 
 returns : tie.Need-returns
-returns c = simp (← c .before .before .byte-len .ensures, eq-eqb _ _ (c .before .if1 .taken), c .pair-of2 .ensures, c .before .before .before .pair-of .ensures)
+returns c = simp (← c .before .before .byte-len .ensures, eq-eqb _ _ (c .before .if1 .taken), c .pair-of2 .ensures, c .before .before .before .pair-of .ensures) refl
 
 needs-backspace-requires : tie.Need-needs-backspace-requires
 needs-backspace-requires c κs = search needs
 
 returns-2 : tie.Need-returns-2
-returns-2 c = simp (← c .before .before .before .byte-len .ensures, ne-eqb _ _ (c .before .before .if1 .left), ← c .before .needs-backspace .ensures, c .if2 .taken, c .before .before .before .before .pair-of .ensures)
+returns-2 c = simp (← c .before .before .before .byte-len .ensures, ne-eqb _ _ (c .before .before .if1 .left), ← c .before .needs-backspace .ensures, c .if2 .taken, c .before .before .before .before .pair-of .ensures) refl
 
 returns-3 : tie.Need-returns-3
-returns-3 c = simp (← c .before .before .before .byte-len .ensures, ne-eqb _ _ (c .before .before .if1 .left), ← c .before .needs-backspace .ensures, c .if2 .left, c .before .before .before .before .pair-of .ensures)
+returns-3 c = simp (← c .before .before .before .byte-len .ensures, ne-eqb _ _ (c .before .before .if1 .left), ← c .before .needs-backspace .ensures, c .if2 .left, c .before .before .before .before .pair-of .ensures) refl
 
 pub single-turn-spec : {M : Type 1} → statement M
 single-turn-spec =

@@ -6,8 +6,9 @@ use borrow.Author.Tests.{not-true, not-false}
 use mathlib.Core.Bool.{true}
 use mathlib.Core.Path.{_≡_, ap, sym, _∙_}
 use Rattle.queue.proofs.WellFormed.{admission-is, formed, pushed-as, stored-has-room}
+use Rattle.queue.specs.Admission.{admissionOutcome}
 use Rattle.queue.specs.Queue.{admit, entered}
-use Rattle.queue.specs.Ring.{admissionOutcome, pushRing, stored, wellFormed}
+use Rattle.queue.specs.Ring.{pushRing, stored, wellFormed}
 use Rattle.queue.specs.declared.push.Admission.{Admission}
 use Rattle.queue.specs.declared.ring.Queue.{Queue}
 use Rattle.code.specs.Outcome.{Outcome, answer}

@@ -5,7 +5,8 @@ use mathlib.Core.Path.{ap, sym, _∙_}
 use Rattle.code.specs.declared.pair.Pair.{Pair}
 use Rattle.queue.proofs.Turns.{turn-of-held}
 use Rattle.queue.specs.Queue.{queued}
-use Rattle.queue.specs.Ring.{heldIn, turn, waitingIn}
+use Rattle.queue.specs.Ring.{heldIn, waitingIn}
+use Rattle.queue.specs.Turn.{turn}
 use Rattle.queue.specs.declared.pop.Turn.{Turn}
 use Rattle.queue.specs.declared.ring.Held.the-variants as held
 use Rattle.queue.specs.declared.ring.Held.{Held}
