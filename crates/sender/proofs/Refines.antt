@@ -16,9 +16,9 @@ use Rattle.queue.proofs.Pairs.{popped-is-sent}
 use Rattle.queue.proofs.Refines as ring
 use Rattle.queue.proofs.WellFormed.{both-left, both-right}
 use Rattle.queue.specs.Good.{Fit}
-use Rattle.queue.specs.Good as queue-good
+use Rattle.queue.specs.Good as of-queue
 use Rattle.queue.specs.Queue.{Queued, pop}
-use Rattle.queue.specs.Ring.{freeing, popRing, pushRing, turn}
+use Rattle.queue.specs.Ring.{leftIn, popRing, pushRing}
 use Rattle.queue.specs.Ring as queue
 use Rattle.queue.specs.declared.ring.Queue.{Queue}
 use Rattle.sender.specs.Good.{Good}
@@ -40,7 +40,7 @@ pub well-formed : (q : Queue) (o : Owed) → queue.wellFormed q ≡ true → owe
 unfolding wellFormed
 well-formed q o formed fits = rw (formed, fits) refl
 
-queue-good : (s : Sender) → Good s → queue-good.Good (s .queue)
+queue-good : (s : Sender) → Good s → of-queue.Good (s .queue)
 queue-good s g = record { formed = queue-formed s (g .formed); places = g .places }
 
 pub fresh-good : Good freshSender
@@ -72,7 +72,7 @@ push-good s c g =
     (record { formed = well-formed _ _ (next .formed) (owed-formed s (g .formed)); places = next .places })
 
 -- a send: what it leaves of the queue needs only that the queue is well formed
-popped-as : (q : Queue) → queue.wellFormed q ≡ true → popRing q .1 ≡ freeing q (turn (queue.view q))
+popped-as : (q : Queue) → queue.wellFormed q ≡ true → popRing q .1 ≡ leftIn q
 unfolding popRing
 popped-as q e = rw e refl
 
