@@ -2,6 +2,7 @@ pub mod Agreement
 pub mod AnyPadding
 pub mod Doubled
 pub mod DrainedBytes
+pub mod ExactlySoMany
 pub mod Filling
 pub mod Heard
 pub mod Lent
