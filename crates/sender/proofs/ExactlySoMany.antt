@@ -10,16 +10,11 @@ use native.Mathlib.Omega.{arith}
 use borrow.Author.Tests.{lt-leb}
 use lib.Count.{ones, onesIn}
 use lib.ListN.{length, length-replicate, replicate}
-use Rattle.code.specs.Channel.{channelOne}
 use Rattle.code.specs.Code.{needsBackspace}
 use Rattle.code.specs.Outcome.{Outcome, answer}
 use Rattle.code.specs.Read.{isCommandPair}
-use Rattle.code.specs.Symbol.{symbolAt}
 use Rattle.code.specs.Write.{inDomain, writeCode}
 use Rattle.code.specs.declared.code.Code.{Code}
-use Rattle.code.specs.declared.code.Code.the-variants as code
-use Rattle.code.specs.declared.control.CodeField.the-variants.{Absent}
-use Rattle.code.specs.declared.control.Control.the-variants as control
 use Rattle.queue.specs.Queue.{admit, entered, isSingle, pairOf, pop, queued}
 use Rattle.queue.specs.Ring.{popRing, pushRing}
 use Rattle.queue.specs.Ring as ring
@@ -33,6 +28,7 @@ use Rattle.sender.specs.Good.{Good}
 use Rattle.sender.specs.Sender.{freshSender, idleSender, pushSender, sendSender, view, wellFormed}
 use Rattle.sender.specs.SendsLeft.{afterSends, fullOf}
 use Rattle.sender.specs.Sending.{Sending, isIdle, push, send, sending}
+use Rattle.sender.specs.TriedByHand.{A-acute}
 use Rattle.sender.specs.declared.sender.Sender.{Sender}
 
 module _ (c : Code) (two : isSingle c ≡ false) (wants : needsBackspace c ≡ true) (command : isCommandPair (pairOf c) ≡ true) where
@@ -65,9 +61,6 @@ module _ (c : Code) (two : isSingle c ≡ false) (wants : needsBackspace c ≡ t
       ∙ needs-them-all n k (omega arith)
 
 -- so it is with Á, 12 20: sent once as 92 20, and n times more behind it, as many as may wait
-abbrev A-acute : Code
-A-acute = code.Control (record { field = Absent; channel = channelOne; control = control.Symbol (symbolAt 16) })
-
 abbrev pub pushedTimes : ℕ → Sender → Sender
 pushedTimes zero s = s
 pushedTimes (suc n) s = pushSender (pushedTimes n s) A-acute .1

@@ -16,3 +16,4 @@ pub mod OwedFits
 pub mod Refines
 pub mod Refused
 pub mod SendsLeft
+pub mod TriedByHand
