@@ -1,53 +1,73 @@
-//! What the crate's push and pop cost, and the same calls as queries for `replay`. A group of calls
-//! is two letters pushed and the pair popped, with so many codes waiting all the while.
+//! A program of its own, which tools/build-timing builds: what a push, a pop and an `n_codes` of the
+//! crate cost. A line for each says code, call, how many codes wait before it, and nanoseconds, the
+//! loop around the call included; what the loop costs alone is the call `nothing`.
+//!
+//! It begins at the C library's `main`, since Rust's own beginning reads the process's memory map,
+//! and the toolchain's emulator fails on that.
+#![no_main]
 
-use crate::names::LETTERS;
-use crate::transcript::Transcript;
-use crate::values::code_bytes;
+use cea608_types::tables::{
+    Channel, Code, Control, ControlCode, Field, PreambleAddressCode, PreambleType,
+};
 use cea608_types::Cea608Writer;
 use std::hint::black_box;
-use std::time::Instant;
+use std::time::{Duration, Instant};
 
-const GROUPS: usize = 100_000;
-const CALLS: usize = 3 * GROUPS;
+/// Reading the clock takes as long as some calls, so that a call is timed on many writers at once.
+const WRITERS: usize = 64;
+const ROUNDS: usize = 2000;
 
-/// Fills the queries and a baseline of as many queries that call nothing, and gives the crate's
-/// nanoseconds for a call.
-pub fn queue(waiting: usize, queries: &mut Transcript, baseline: &mut Transcript) -> f64 {
-    for file in [&mut *queries, &mut *baseline] {
-        for _ in 0..waiting {
-            file.add(0x30, &code_bytes(LETTERS[33]), &[]);
-        }
+#[no_mangle]
+pub extern "C" fn main() -> i32 {
+    let preamble = PreambleAddressCode::new(5, false, PreambleType::Indent0);
+    let preamble = Control::PreambleAddress(preamble);
+    let preamble = ControlCode::new(Field::ONE, Channel::ONE, preamble);
+    for waiting in [0, 32, 63] {
+        tell("letters", Code::LatinCapitalA, waiting);
+        tell("preambles", Code::Control(preamble), waiting);
     }
-    for _ in 0..GROUPS {
-        for _ in 0..2 {
-            queries.add(0x30, &code_bytes(LETTERS[33]), &[]);
-        }
-        queries.add(0x31, &[], &[]);
-    }
-    for _ in 0..CALLS {
-        baseline.add(0x3F, &[], &[]);
-    }
-    (0..5)
-        .map(|_| crate_calls(waiting))
-        .fold(f64::MAX, f64::min)
+    0
 }
 
-fn crate_calls(waiting: usize) -> f64 {
-    let mut writer = Cea608Writer::default();
-    for _ in 0..waiting {
-        writer.push(LETTERS[33]);
-    }
-    let before = Instant::now();
-    for _ in 0..GROUPS {
-        writer.push(black_box(LETTERS[33]));
-        writer.push(black_box(LETTERS[33]));
+fn tell(name: &str, code: Code, waiting: usize) {
+    let nothing = nanoseconds(code, waiting, |_| ());
+    let push = nanoseconds(code, waiting, |writer| writer.push(black_box(code)));
+    let pop = nanoseconds(code, waiting, |writer| {
         black_box(writer.pop());
-    }
-    before.elapsed().as_nanos() as f64 / CALLS as f64
+    });
+    let n_codes = nanoseconds(code, waiting, |writer| {
+        black_box(writer.n_codes());
+    });
+    println!("{name} nothing {waiting} {nothing:.1}");
+    println!("{name} push {waiting} {push:.1}");
+    println!("{name} pop {waiting} {pop:.1}");
+    println!("{name} n_codes {waiting} {n_codes:.1}");
 }
 
-/// The number of calls that are timed.
-pub const fn calls() -> usize {
-    CALLS
+fn nanoseconds(code: Code, waiting: usize, call: impl Fn(&mut Cea608Writer)) -> f64 {
+    let mut writers: Vec<Cea608Writer> = (0..WRITERS).map(|_| Cea608Writer::default()).collect();
+    // A writer that once held as many never asks for memory in a call that is timed.
+    bring(&mut writers, code, 64);
+    let mut spent = Duration::ZERO;
+    for _ in 0..ROUNDS {
+        bring(&mut writers, code, waiting);
+        let before = Instant::now();
+        for writer in &mut writers {
+            call(black_box(writer));
+        }
+        spent += before.elapsed();
+    }
+    spent.as_nanos() as f64 / (ROUNDS * WRITERS) as f64
+}
+
+/// Brings each writer to so many codes that wait.
+fn bring(writers: &mut [Cea608Writer], code: Code, waiting: usize) {
+    for writer in writers {
+        while writer.n_codes() > waiting {
+            writer.pop();
+        }
+        while writer.n_codes() < waiting {
+            writer.push(code);
+        }
+    }
 }

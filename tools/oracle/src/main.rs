@@ -3,12 +3,10 @@
 //!     oracle sets                          the names of the sets
 //!     oracle make SET QUERIES ANSWERS      writes a set's queries and the crate's answers
 //!     oracle compare QUERIES ANSWERS GOT   compares what `replay` wrote with the crate's answers
-//!     oracle bench-queue WAITING QUERIES BASELINE   times the crate's push and pop; see `bench`
 //!
 //! A set that is chosen at random is made from a seed, which is printed; SEED names another one.
 //! A layer above adds its queries and sets in a module of its own, and the sets to `SETS`.
 
-mod bench;
 mod code;
 mod code_sets;
 mod event;
@@ -60,7 +58,6 @@ fn main() {
         ["sets"] => list_sets(),
         ["make", set, queries, answers] => make(set, queries, answers),
         ["compare", queries, answers, got] => compare(queries, answers, got),
-        ["bench-queue", waiting, queries, baseline] => bench_queue(waiting, queries, baseline),
         _ => Err(USAGE.into()),
     };
     if let Err(text) = done {
@@ -108,18 +105,6 @@ fn compare(queries: &str, answers: &str, got: &str) -> Result<(), String> {
     };
     let count = transcript.compare(&load(got)?)?;
     println!("{count} queries, no difference");
-    Ok(())
-}
-
-fn bench_queue(waiting: &str, queries: &str, baseline: &str) -> Result<(), String> {
-    let waiting = waiting
-        .parse()
-        .map_err(|error| format!("{waiting}: {error}"))?;
-    let (mut calls, mut none) = (Transcript::default(), Transcript::default());
-    let nanoseconds = bench::queue(waiting, &mut calls, &mut none);
-    save(queries, &calls.queries)?;
-    save(baseline, &none.queries)?;
-    println!("{} {nanoseconds:.1}", bench::calls());
     Ok(())
 }
 
