@@ -35,7 +35,7 @@ good-fits q e =
     let f = formed q e in
     record { size = omega (arith, f .waiting, how-many (q .slots) (q .start) (q .waiting)); held = f .held; codes = f .codes }
 
-fits-formed : (q : Queue) → q .start < 64 → Fit (view q) → wellFormed q ≡ true
+pub fits-formed : (q : Queue) → q .start < 64 → Fit (view q) → wellFormed q ≡ true
 fits-formed q less f = well-formed q (record {
   start = less;
   waiting = omega (arith, f .size, how-many (q .slots) (q .start) (q .waiting));
@@ -142,7 +142,7 @@ view-of-freed q t h =
     (over-the-seam (q .slots) (q .start + t .freed) (q .waiting - t .freed)
     ∙ freed-in-front (q .slots) (q .start) (q .waiting) (t .freed) h)
 
-view-of-turn : (q : Queue) → view (freeing q (turn (view q))) ≡ pop (view q) .next
+pub view-of-turn : (q : Queue) → view (freeing q (turn (view q))) ≡ pop (view q) .next
 view-of-turn q =
     view-of-freed q (turn (view q)) (omega (arith, how-many (q .slots) (q .start) (q .waiting)))
     ∙ ap₂ queued (pop-drops (view q)) (held-back (pop (view q) .next .held))

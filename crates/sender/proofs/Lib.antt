@@ -1,8 +1,11 @@
 pub mod Agreement
 pub mod Doubled
 pub mod Heard
+pub mod Filling
+pub mod Lent
 pub mod NextPair
 pub mod NothingLeft
+pub mod OneAnswer
 pub mod OwedFits
 pub mod Refines
 pub mod Refused

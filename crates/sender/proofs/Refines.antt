@@ -5,15 +5,18 @@
 use mathlib.Core.Bool.{Bool, true, false, cond, _&&_}
 use mathlib.Core.Option.{Option, none, some}
 use mathlib.Core.Path.{_≡_, refl, ap, ap₂, sym, subst, _∙_}
+use native.Mathlib.Omega.{arith}
+use lib.ListN.{length}
 use Rattle.code.proofs.Written.{SentPair}
 use Rattle.code.specs.Outcome.{Outcome, answer, refused}
 use Rattle.code.specs.declared.code.Code.{Code}
 use Rattle.code.specs.declared.pair.Pair.{Pair}
+use Rattle.queue.proofs.Fit.{Fit, pop-fits}
 use Rattle.queue.proofs.Pairs.{popped-is-sent}
 use Rattle.queue.proofs.Refines as ring
 use Rattle.queue.proofs.WellFormed.{both-left, both-right}
 use Rattle.queue.specs.Queue.{Queued, pop}
-use Rattle.queue.specs.Ring.{popRing, pushRing}
+use Rattle.queue.specs.Ring.{freeing, popRing, pushRing, turn}
 use Rattle.queue.specs.Ring as queue
 use Rattle.queue.specs.declared.ring.Queue.{Queue}
 use Rattle.sender.specs.Good.{Good}
@@ -66,23 +69,36 @@ push-good s c g =
     subst (λ (r : Outcome Unit × Sender). Good (r .1)) (sym (pushed-as s c (g .formed)))
     (record { formed = well-formed _ _ (next .formed) (owed-formed s (g .formed)); places = next .places })
 
--- a send
+-- a send: what it leaves of the queue needs only that the queue is well formed
+popped-as : (q : Queue) → queue.wellFormed q ≡ true → popRing q .1 ≡ freeing q (turn (queue.view q))
+unfolding popRing
+popped-as q e = rw e refl
+
+popped-view : (q : Queue) → queue.wellFormed q ≡ true → queue.view (popRing q .1) ≡ pop (queue.view q) .next
+popped-view q e = ap queue.view (popped-as q e) ∙ ring.view-of-turn q
+
+popped-formed : (q : Queue) → queue.wellFormed q ≡ true → queue.wellFormed (popRing q .1) ≡ true
+popped-formed q e =
+    ring.fits-formed (popRing q .1)
+    (omega (arith, ap (λ (r : Queue). r .start) (popped-as q e)))
+    (subst Fit (sym (popped-view q e)) (pop-fits (queue.view q) (ring.good-fits q e)))
+
 owed-back : (o : Option Pair) → owedIn (owedAs o) ≡ o
 owed-back none = refl
 owed-back (some p) = refl
 
-after-refines : (o : Option Pair) (q : Queue) → ring.Good q → sending (queue.view (queueAfter o q)) (owedIn (owedAs (sendOwed o (queue.view q) .next .owed))) ≡ sendOwed o (queue.view q) .next
-after-refines (some p) q g = refl
-after-refines none q g =
-    ap₂ sending (ap (λ (r : Outcome Pair × Queued). r .1) (ring.pop-refines q g)) (owed-back (repeatOf (pop (queue.view q) .pair)))
+view-after : (o : Option Pair) (q : Queue) → queue.wellFormed q ≡ true → sending (queue.view (queueAfter o q)) (owedIn (owedAs (sendOwed o (queue.view q) .next .owed))) ≡ sendOwed o (queue.view q) .next
+view-after (some p) q e = refl
+view-after none q e = ap₂ sending (popped-view q e) (owed-back (repeatOf (pop (queue.view q) .pair)))
 
-pub send-refines : (s : Sender) → Good s → (sendSender s .0 ≡ answer (send (view s) .pair)) × (view (sendSender s .1) ≡ send (view s) .next)
+pub sent-pair : (s : Sender) → wellFormed s ≡ true → sendSender s .0 ≡ answer (send (view s) .pair)
+sent-pair s e = ap (λ (r : Outcome Pair × Sender). r .0) (sent-as s e)
+
+pub sent-view : (s : Sender) → wellFormed s ≡ true → view (sendSender s .1) ≡ send (view s) .next
 unfolding send
-send-refines s g =
-    let done = sent-as s (g .formed) in (
-      ap (λ (r : Outcome Pair × Sender). r .0) done,
-      ap (λ (r : Outcome Pair × Sender). view (r .1)) done ∙ after-refines (owedIn (s .owed)) (s .queue) (queue-good s g),
-    )
+sent-view s e =
+    ap (λ (r : Outcome Pair × Sender). view (r .1)) (sent-as s e)
+    ∙ view-after (owedIn (s .owed)) (s .queue) (queue-formed s e)
 
 -- a command pair of odd parity may be owed, and of no other pair a repeat is
 repeat-by : (p : Pair) (t : Bool) → isCommandPair p ≡ t → SentPair p → owedFits (owedIn (owedAs (repeatOf p))) ≡ true
@@ -94,17 +110,28 @@ repeat-fits q e =
     let p = pop (queue.view q) .pair in
     repeat-by p (isCommandPair p) refl (popped-is-sent (queue.view q) (ring.good-fits q e))
 
-after-good : (o : Option Pair) (q : Queue) → ring.Good q → Good (sender (queueAfter o q) (owedAs (sendOwed o (queue.view q) .next .owed)))
-after-good (some p) q g = record { formed = well-formed _ _ (g .formed) refl; places = g .places }
-after-good none q g =
-    let next = ring.pop-good q g in
-    record { formed = well-formed _ _ (next .formed) (repeat-fits q (g .formed)); places = next .places }
+formed-after : (o : Option Pair) (q : Queue) → queue.wellFormed q ≡ true → wellFormed (sender (queueAfter o q) (owedAs (sendOwed o (queue.view q) .next .owed))) ≡ true
+formed-after (some p) q e = well-formed _ _ e refl
+formed-after none q e = well-formed _ _ (popped-formed q e) (repeat-fits q e)
+
+pub sent-formed : (s : Sender) → wellFormed s ≡ true → wellFormed (sendSender s .1) ≡ true
+unfolding send
+sent-formed s e =
+    ap (λ (r : Outcome Pair × Sender). wellFormed (r .1)) (sent-as s e)
+    ∙ formed-after (owedIn (s .owed)) (s .queue) (queue-formed s e)
+
+places-after : (o : Option Pair) (q : Queue) → queue.wellFormed q ≡ true → queueAfter o q .slots ≡ q .slots
+places-after (some p) q e = refl
+places-after none q e = ap (λ (r : Queue). r .slots) (popped-as q e)
+
+pub send-refines : (s : Sender) → Good s → (sendSender s .0 ≡ answer (send (view s) .pair)) × (view (sendSender s .1) ≡ send (view s) .next)
+send-refines s g = (sent-pair s (g .formed), sent-view s (g .formed))
 
 pub send-good : (s : Sender) → Good s → Good (sendSender s .1)
-unfolding send
-send-good s g =
-    subst (λ (r : Outcome Pair × Sender). Good (r .1)) (sym (sent-as s (g .formed)))
-    (after-good (owedIn (s .owed)) (s .queue) (queue-good s g))
+send-good s g = record {
+  formed = sent-formed s (g .formed);
+  places = ap (λ (r : Outcome Pair × Sender). length (r .1 .queue .slots)) (sent-as s (g .formed)) ∙ ap length (places-after (owedIn (s .owed)) (s .queue) (queue-formed s (g .formed))) ∙ g .places;
+}
 
 -- 12: the state comes back bit for bit
 pub ill-formed-push : (s : Sender) (c : Code) → wellFormed s ≡ false → pushSender s c ≡ (refused 12, s)
