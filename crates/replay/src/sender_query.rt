@@ -142,6 +142,26 @@ fn seven(a: u8, b: u8, c: u8, d: u8, e: u8, f: u8, g: u8) -> usize {
     low + high * 4294967296
 }
 
+// What is seen of the bytes that a drain leaves alone.
+fn bytes_before() -> [u8; 14] {
+    [
+        0xE0,
+        0xE1,
+        0xE2,
+        0xE3,
+        0xE4,
+        0xE5,
+        0xE6,
+        0xE7,
+        0xE8,
+        0xE9,
+        0xEA,
+        0xEB,
+        0xEC,
+        0xED,
+    ]
+}
+
 fn drain(sender: Sender, asked: [u8; 16]) -> SenderAnswered {
     let start = seven(
         asked[2],
@@ -161,22 +181,7 @@ fn drain(sender: Sender, asked: [u8; 16]) -> SenderAnswered {
         asked[14],
         asked[15],
     );
-    let mut bytes = [
-        0xE0,
-        0xE1,
-        0xE2,
-        0xE3,
-        0xE4,
-        0xE5,
-        0xE6,
-        0xE7,
-        0xE8,
-        0xE9,
-        0xEA,
-        0xEB,
-        0xEC,
-        0xED,
-    ];
+    let mut bytes = bytes_before();
     let drained = drain_into(sender, &mut bytes, output_length(asked), start, limit);
     let answer = drained.answer;
     let next = drained.sender;

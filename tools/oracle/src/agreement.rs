@@ -2,17 +2,17 @@
 //! random order until it is idle; a line spoils pairs as the demand allows, puts padding in and takes
 //! padding out; a fresh receiver decodes what arrives. `replay` is asked every push, send and decode.
 //! That what is heard agrees with what was queued is checked here, on the very answers that `replay`
-//! is held to: the events, the pairs are the crate's, the repeats are 01's by the model in `sender`.
+//! is held to: pairs and events are the crate's, and the repeats are the model's in `sender`.
 
 use crate::names::{COMMANDS, LETTERS};
-use crate::queue::plain;
+use crate::queue::{plain, Pushes};
 use crate::queue_sets::any_code;
 use crate::random::{Random, SEED};
 use crate::receiver::{heard, Heard, Receiver, HI, PADDING};
 use crate::sender::{is_command, is_odd, Asked};
 use crate::transcript::Transcript;
 use cea608_types::tables::{Channel, Code, Field};
-use cea608_types::{Cea608, Cea608State, Mode};
+use cea608_types::{Cea608, Cea608State, Mode, Text};
 
 type Pair = [u8; 2];
 
@@ -67,7 +67,7 @@ pub fn sessions(to: &mut Transcript, random: &mut Random) {
 }
 
 fn session(to: &mut Transcript, random: &mut Random, bursts: u32, density: Density, met: &mut Met) {
-    let spoken = speak(to, random, bursts);
+    let spoken = speak(to, random, bursts, met);
     let line = Line {
         random,
         density,
@@ -107,7 +107,7 @@ impl Spoken {
 
 /// Pushes and sends in random order, the sends now and then going on while there is nothing to say,
 /// and then sends until idle.
-fn speak(to: &mut Transcript, random: &mut Random, bursts: u32) -> Spoken {
+fn speak(to: &mut Transcript, random: &mut Random, bursts: u32, met: &mut Met) -> Spoken {
     let mut asked = Asked::new(to);
     let mut spoken = Spoken::default();
     let mut code = any_code(random);
@@ -127,6 +127,7 @@ fn speak(to: &mut Transcript, random: &mut Random, bursts: u32) -> Spoken {
         }
     }
     spoken.send_until_idle(&mut asked);
+    met.pushes.add(&asked.model.writer.pushes);
     spoken
 }
 
@@ -139,6 +140,7 @@ struct Arrived {
 /// How often a line did what it should do.
 #[derive(Default)]
 struct Met {
+    pushes: Pushes,
     sessions: usize,
     arrived: usize,
     spoiled: usize,
@@ -154,6 +156,7 @@ struct Met {
 impl Met {
     /// A comparison that never came to a case would say nothing of it.
     fn reached_everything(&self) {
+        self.pushes.reached_every_answer();
         for (first, row) in self.hits.iter().enumerate() {
             for (second, &count) in row.iter().enumerate() {
                 let shows = first % 2 == 1 || second % 2 == 1;
@@ -164,13 +167,13 @@ impl Met {
                 );
             }
         }
-        for count in [
-            self.first_copies,
-            self.last_copies,
-            self.put_in,
-            self.taken_out,
+        for (count, what) in [
+            (self.first_copies, "hits on a first copy"),
+            (self.last_copies, "hits on a last copy"),
+            (self.put_in, "pairs of padding put in"),
+            (self.taken_out, "pairs of padding taken out"),
         ] {
-            assert!(count > 1000, "too few of one kind");
+            assert!(count > 1000, "too few {what}");
         }
         assert!(self.longest_stretch >= 8, "no long stretch");
     }
@@ -365,56 +368,66 @@ struct Beyond {
     queued: Vec<Cea608>,
 }
 
-/// Each condition of demand 3 is needed. Two hits in one stretch lose a command, whether it was
-/// queued once or twice; a hit on text loses words; a hit that parity does not show is heard as
-/// another command; padding between two copies scrolls a window twice.
-fn beyond() -> Vec<Beyond> {
-    let scroll = plain(COMMANDS[13]);
-    let scrolls = Cea608::CarriageReturn(Channel::ONE);
-    let roll_up = plain(COMMANDS[5]);
+const SCROLL: Pair = [0x94, 0xAD];
+const SCROLLS: Cea608 = Cea608::CarriageReturn(Channel::ONE);
+
+/// Two hits in one stretch lose a command, whether it was queued once or twice, and a hit on text
+/// loses words.
+fn losses() -> Vec<Beyond> {
+    let (scroll, roll_up) = (plain(COMMANDS[13]), plain(COMMANDS[5]));
     let rolls_up = Cea608::NewMode(Channel::ONE, Mode::RollUp2);
-    let erases = Cea608::EraseNonDisplay(Channel::ONE);
-    let sent = [0x94, 0xAD];
-    let [one_bit, other_bit, two_bits] = [[0x14, 0xAD], [0x94, 0xAC], [0x94, 0xAE]];
-    let mut words = Cea608State::default();
-    heard(&mut words, [0x94, 0x25]);
-    let words = events(&[heard(&mut words, HI)]);
+    let (hit, other_hit) = ([0x14, 0xAD], [0x94, 0xAC]);
+    let said = Cea608::Text(Text {
+        needs_backspace: false,
+        char1: Some('H'),
+        char2: Some('i'),
+        channel: Channel::ONE,
+    });
     vec![
         Beyond {
             codes: vec![scroll],
-            arrived: vec![one_bit, other_bit],
+            arrived: vec![hit, other_hit],
             heard: vec![],
-            queued: vec![scrolls],
+            queued: vec![SCROLLS],
         },
         Beyond {
             codes: vec![scroll, scroll],
-            arrived: vec![one_bit, sent, other_bit, sent],
-            heard: vec![scrolls],
-            queued: vec![scrolls, scrolls],
+            arrived: vec![hit, SCROLL, other_hit, SCROLL],
+            heard: vec![SCROLLS],
+            queued: vec![SCROLLS, SCROLLS],
         },
         Beyond {
             codes: vec![roll_up, LETTERS[0x28], LETTERS[0x49]],
             arrived: vec![[0x94, 0x25], [0x94, 0x25], [0x48, 0xE9]],
             heard: vec![rolls_up],
-            queued: [vec![rolls_up], words].concat(),
-        },
-        Beyond {
-            codes: vec![scroll],
-            arrived: vec![sent, two_bits],
-            heard: vec![scrolls, erases],
-            queued: vec![scrolls],
-        },
-        Beyond {
-            codes: vec![scroll],
-            arrived: vec![sent, PADDING, sent],
-            heard: vec![scrolls, scrolls],
-            queued: vec![scrolls],
+            queued: vec![rolls_up, said],
         },
     ]
 }
 
+/// A hit that parity does not show is heard as another command, and padding between two copies
+/// scrolls a window twice.
+fn additions() -> Vec<Beyond> {
+    let scroll = plain(COMMANDS[13]);
+    vec![
+        Beyond {
+            codes: vec![scroll],
+            arrived: vec![SCROLL, [0x94, 0xAE]],
+            heard: vec![SCROLLS, Cea608::EraseNonDisplay(Channel::ONE)],
+            queued: vec![SCROLLS],
+        },
+        Beyond {
+            codes: vec![scroll],
+            arrived: vec![SCROLL, PADDING, SCROLL],
+            heard: vec![SCROLLS, SCROLLS],
+            queued: vec![SCROLLS],
+        },
+    ]
+}
+
+/// Each condition that demand 3 makes of the line is needed.
 fn limits(to: &mut Transcript) {
-    for case in beyond() {
+    for case in losses().into_iter().chain(additions()) {
         let mut asked = Asked::new(to);
         let mut spoken = Spoken::default();
         for code in case.codes {

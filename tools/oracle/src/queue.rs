@@ -15,13 +15,36 @@ pub const PLACES: usize = 64;
 const FULL: u8 = 7;
 pub const ILL_FORMED: u8 = 12;
 
+/// What pushes came upon.
+#[derive(Default)]
+pub struct Pushes {
+    /// How often each refusal was due, by its number, and 0 for accepted pushes.
+    pub answered: [usize; 13],
+    nul_while_full: usize,
+}
+
+impl Pushes {
+    pub fn add(&mut self, others: &Pushes) {
+        for (count, other) in self.answered.iter_mut().zip(others.answered) {
+            *count += other;
+        }
+        self.nul_while_full += others.nul_while_full;
+    }
+
+    /// A comparison that never came to a refusal would say nothing of it.
+    pub fn reached_every_answer(&self) {
+        for refusal in [0, 2, 3, 7] {
+            assert!(self.answered[refusal] > 100, "too few answers {refusal}");
+        }
+        assert!(self.nul_while_full > 10, "too few NULs into a full queue");
+    }
+}
+
 /// The crate's writer, with a push refused where 01 refuses it.
 #[derive(Default)]
 pub struct Writer {
     writer: Cea608Writer,
-    /// How often each refusal was due, by its number, and 0 for accepted pushes.
-    pub answered: [usize; 13],
-    pub nul_while_full: usize,
+    pub pushes: Pushes,
 }
 
 impl Writer {
@@ -42,14 +65,14 @@ impl Writer {
         if refusal == 0 {
             self.writer.push(code);
         }
-        self.answered[usize::from(refusal)] += 1;
+        self.pushes.answered[usize::from(refusal)] += 1;
         refusal
     }
 
     fn refusal_of(&mut self, code: Code) -> u8 {
         let full = self.is_full();
         if code == Code::NUL {
-            self.nul_while_full += usize::from(full);
+            self.pushes.nul_while_full += usize::from(full);
             return 0;
         }
         match written(code) {

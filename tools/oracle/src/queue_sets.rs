@@ -4,7 +4,7 @@
 use crate::code::{control, mid_row_code, preamble_code};
 use crate::code_sets::{CHANNELS, FIELDS_OR_NONE, FLAGS};
 use crate::names::{COMMANDS, LETTERS, MID_ROW_COLOURS, STYLES, SYMBOLS, TABS};
-use crate::queue::{plain, Asked, Pieces, Writer, PLACES};
+use crate::queue::{plain, Asked, Pieces, PLACES};
 use crate::random::{Random, SEED};
 use crate::transcript::Transcript;
 use cea608_types::tables::{Code, Control};
@@ -39,7 +39,7 @@ pub fn calls(to: &mut Transcript, random: &mut Random) {
             run_empty(&mut asked);
         }
     }
-    reached_every_answer(&asked.writer);
+    asked.writer.pushes.reached_every_answer();
 }
 
 /// Sequences of a few codes, in which every case of a pop is met.
@@ -167,14 +167,6 @@ fn run_empty(asked: &mut Asked) {
         asked.pop();
         asked.count();
     }
-}
-
-/// A comparison that never came to a refusal would say nothing of it.
-pub fn reached_every_answer(writer: &Writer) {
-    for refusal in [0, 2, 3, 7] {
-        assert!(writer.answered[refusal] > 100, "too few answers {refusal}");
-    }
-    assert!(writer.nul_while_full > 10, "too few NULs into a full queue");
 }
 
 pub fn any_code(random: &mut Random) -> Code {

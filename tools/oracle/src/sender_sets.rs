@@ -46,7 +46,7 @@ pub fn calls(to: &mut Transcript, random: &mut Random) {
     reached_everything(&asked);
 }
 
-/// Sends until idle and twice more. 01 bounds the sends until idle by 3n + 1, where n is the count of codes.
+/// Sends until idle and twice more. By 01 a sender with n codes is idle after at most 3n + 1 sends.
 fn run_idle(asked: &mut Asked) {
     let bound = 3 * asked.model.writer.n_codes() + 1;
     let mut sends = 0;
@@ -238,7 +238,7 @@ fn refusals_change_nothing(asked: &mut Asked, random: &mut Random) {
 
 /// A comparison that never came to a case would say nothing of it.
 fn reached_everything(asked: &Asked) {
-    queue_sets::reached_every_answer(&asked.model.writer);
+    asked.model.writer.pushes.reached_every_answer();
     let met = &asked.met;
     for (count, what) in [
         (met.pushes_while_owed, "pushes while a repeat is owed"),
@@ -445,7 +445,7 @@ fn full(asked: &mut Asked) {
     }
     asked.push(Code::NUL);
     asked.look();
-    let [accepted, refused] = [0, 7].map(|answer| asked.model.writer.answered[answer]);
+    let [accepted, refused] = [0, 7].map(|answer| asked.model.writer.pushes.answered[answer]);
     assert_eq!((accepted, refused), (6 + PLACES + 1, 1));
     asked.reset();
     asked.look();
