@@ -8,7 +8,6 @@ use Rattle.lines.specs.Words.{decimal}
 use Rattle.lines.specs.declared.line.Line.{Line}
 
 infixr 5 _then_
-
 -- a line with these bytes put behind it is that line
 pub data Put (l : Line) (bytes : List ℕ) (next : Line) : Type 0 where
   is : next ≡ putAll l bytes → Put l bytes next

@@ -1,43 +1,38 @@
+-- `lines::listing::Listing::absorb` meets its contract, by the limit of pairs and whether half a pair is there.
+-- Assumes nothing.
 use borrow.Author.Needs.{needs}
+use borrow.Author.Tests.{le-leb, lt-leb}
+use mathlib.Core.Path.{ap, _∙_}
+use Rattle.lines.specs.Pieces.{absorbed, refusedBy}
 use Rattle.lines.proofs.listing.Listing.absorb.Statement.{statement}
 use Rattle.lines.proofs.listing.Listing.absorb.Tie as tie
-use Rattle.lines.proofs.listing.Listing.absorb.Reads as reads
-use Rattle.lines.proofs.listing.Listing.absorb.Lts as lts
-use Rattle.lines.proofs.line.Line.new.Reads as new-reads
-use Rattle.lines.proofs.listing.Listing.after_pair.Reads as after-pair-reads
-use Rattle.lines.proofs.listing.Listing.refused_by.Reads as refused-by-reads
 
--- src/listing.rt:132:40
 new-requires : tie.Need-new-requires
 new-requires c κs = search needs
 
--- src/listing.rt:132:13
 refused-by-requires : tie.Need-refused-by-requires
 refused-by-requires c κs = search needs
 
--- src/listing.rt:132:13
 returns : tie.Need-returns
-returns c = ?
+unfolding absorbed
+returns c = rw (le-leb _ _ (c .before .before .if1 .taken)) (c .refused-by .ensures ∙ ap (refusedBy 10 (c .before .before .before .before .before .args .self)) (c .before .new .ensures))
 
--- src/listing.rt:137:23
 enum-told : tie.Need-enum-told
 enum-told c = search needs
 
--- src/listing.rt:143:24
 enum-known-half : tie.Need-enum-known-half
 enum-known-half c = search needs
 
--- src/listing.rt:143:34
 after-pair-requires : tie.Need-after-pair-requires
 after-pair-requires c κs = search needs
 
--- src/listing.rt:122:5
 returns-2 : tie.Need-returns-2
-returns-2 c = ?
+unfolding absorbed
+returns-2 c = rw (lt-leb _ _ (c .before .before .if1 .left), c .enum-told .given .1)
 
--- src/listing.rt:122:5
 returns-3 : tie.Need-returns-3
-returns-3 c = ?
+unfolding absorbed
+returns-3 c = rw (lt-leb _ _ (c .before .before .before .before .if1 .left), c .before .before .half .given .1) (c .after-pair .ensures)
 
 pub absorb-spec : {M : Type 1} → statement M
 absorb-spec =
