@@ -8,6 +8,7 @@ use native.Mathlib.Omega.{arith}
 use borrow.Author.Tests.{le-leb, le-ltb, leb-false, leb-true, lt-ltb, ltb-false, ltb-true}
 use lib.Dec.{leb, ltb}
 use lib.ListN.{getD, length, length-take, take}
+use lib.Seq.{length-take-le, take-all}
 use Rattle.lines.specs.Line.{bytesFrom, hasMore, pending, unwritten, waiting, writes}
 use Rattle.lines.specs.declared.line.Line.{Line}
 
@@ -67,3 +68,14 @@ byte-from bytes at (suc n) (suc i) h =
 
 pub byte-at : (l : Line) (i : ℕ) → i < waiting l → getD (pending l) i 0 ≡ getD (l .bytes) (l .at + i) 0
 byte-at l i h = byte-from (l .bytes) (l .at) (waiting l) i h
+
+-- a flush writes no more than there is room for, and leaves something where more waits than that
+pub fits : (l : Line) (room : ℕ) → length (writes l room) ≤ room
+fits l room = omega (arith, length-take room (pending l))
+
+pub left-where-more : (l : Line) (room : ℕ) → hasMore (unwritten l room) ≡ ltb room (waiting l)
+left-where-more l room =
+    sym
+    (same-test room (waiting l) 0 (waiting (unwritten l room))
+    (λ more. omega (arith, length-take-le room (pending l) (omega (arith, how-many l))))
+    (λ enough. omega (arith, how-many l, ap length (take-all room (pending l) (omega (arith, how-many l))))))
