@@ -60,7 +60,7 @@ module _ (l : Listing) (output : List ℕ) (written : ℕ) (inside : written ≤
   short : length (said l output written) ≤ length (drop written output)
   short = omega (arith, fits (l .line) (length output - written), length-drop written output)
 
-  pub filled-length : length (filled l output written) ≡ length output
+  filled-length : length (filled l output written) ≡ length output
   filled-length =
       let w = said l output written in
       let rest : length (over w (drop written output)) ≡ length (drop written output) = length-front (drop written output) w (length w) (sym (length-take-le (length w) (drop written output) short)) in
@@ -141,7 +141,7 @@ module _ (l : Listing) (output : List ℕ) (written : ℕ) (inside : written ≤
       ∙ ap (flushed (l .line)) (take-all (length output - written) rest (omega (arith, length-drop written output)))
       ∙ ap {B = ℕ × Line × List ℕ} (λ (n : ℕ). (length (writes (l .line) n), unwritten (l .line) n, over (writes (l .line) n) rest)) (length-drop written output)
 
-  pub counted : r .count ≡ length (said l output written)
+  counted : r .count ≡ length (said l output written)
   counted = ap (λ (x : ℕ × Line × List ℕ). x .0) of-part
 
   line-left : r .line ≡ unwritten (l .line) (length output - written)
@@ -155,6 +155,9 @@ module _ (l : Listing) (output : List ℕ) (written : ℕ) (inside : written ≤
 
   pub back-length : length (back output written ys) ≡ length output
   back-length = ap length part-filled ∙ filled-length l output written inside
+
+  pub stays-inside : written + r .count ≤ length (back output written ys)
+  stays-inside = omega (arith, count-fits, back-length)
 
   left-is : (m : Listing) → m ≡ withLine l (r .line) → m ≡ left l output written
   left-is m e = e ∙ ap (withLine l) line-left

@@ -210,9 +210,8 @@ impl Listing {
         while taken < input.len() {
             let line = listing.line;
             let flushed = line.flush(&mut output[written..]);
-            let count = flushed.count;
             let rest = flushed.line;
-            written += count;
+            written += flushed.count;
             listing = listing.with_line(rest);
             if rest.has_more() {
                 return Progress {
@@ -233,11 +232,10 @@ impl Listing {
         }
         let line = listing.line;
         let flushed = line.flush(&mut output[written..]);
-        let count = flushed.count;
         let rest = flushed.line;
         Progress {
             taken: taken,
-            written: written + count,
+            written: written + flushed.count,
             listing: listing.with_line(rest),
         }
     }
