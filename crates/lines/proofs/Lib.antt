@@ -1,0 +1,4 @@
+pub mod Flushing
+pub mod Puts
+pub mod Reading
+pub mod Waiting

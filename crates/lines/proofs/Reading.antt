@@ -1,0 +1,198 @@
+-- The reading of a piece, one turn at a time. What it comes to from a state, with so much taken and written, is the same
+-- before a turn and after it; where it stops, it is what the flush left.
+-- Assumes nothing.
+use mathlib.Core.Bool.{Bool, true, false, cond}
+use mathlib.Core.List.{List, [], _∷_, _++_, append-assoc, append-nil}
+use mathlib.Core.Path.{_≡_, refl, ap, ap₂, sym, _∙_}
+use Prim.Native.Nat.{ℕ, _+_, _-_, _≤_, _<_}
+use native.Mathlib.Numerals.{add-one}
+use native.Mathlib.Omega.{arith}
+use lib.Dec.{ltb}
+use lib.ListN.{drop, drop-of-length-le, getD, length, length-append, length-drop, take}
+use lib.Seq.{drop-at, drop-cons, drop-drop, length-front, length-take-le, take-all, take-at}
+use Rattle.lines.proofs.Waiting.{fits, left-where-more}
+use Rattle.lines.specs.Line.{flushOutcome, flushed, hasMore, over, unwritten, waiting, writes}
+use Rattle.lines.specs.Pieces.{Piece, absorbed, behind, flushedOnly, pieceOf, readListing, stops, withLine}
+use Rattle.lines.specs.declared.line.Flushed.{Flushed}
+use Rattle.lines.specs.declared.line.Line.{Line}
+use Rattle.lines.specs.declared.listing.Listing.{Listing}
+
+abbrev Read : Type 0
+Read = ℕ × ℕ × Listing × List ℕ
+
+-- so much taken and written, and a piece behind it
+abbrev onceRead : ℕ → ℕ → List ℕ → Piece → Read
+onceRead taken written output p = (taken + p .taken, written + length (p .text), p .next, take written output ++ over (p .text) (drop written output))
+
+-- what the reading comes to
+abbrev pub comesTo : List ℕ → ℕ → Listing → List ℕ → ℕ → Read
+comesTo input taken l output written = onceRead taken written output (pieceOf l (drop taken input) (length output - written))
+
+pub begun : (input : List ℕ) (l : Listing) (output : List ℕ) → comesTo input 0 l output 0 ≡ readListing l input output
+unfolding readListing
+begun input l output =
+    let whole : length output - 0 ≡ length output = omega arith in
+    let p = pieceOf l input (length output) in
+    let taken : 0 + p .taken ≡ p .taken = omega arith in
+    let written : 0 + length (p .text) ≡ length (p .text) = omega arith in
+    ap (λ (room : ℕ). onceRead 0 0 output (pieceOf l input room)) whole
+    ∙ ap₂ {C = Read} (λ (n m : ℕ). (n, m, p .next, over (p .text) output)) taken written
+
+-- what a turn says, and what is left of the listing and of the output then
+abbrev said : Listing → List ℕ → ℕ → List ℕ
+said l output written = writes (l .line) (length output - written)
+
+abbrev left : Listing → List ℕ → ℕ → Listing
+left l output written = withLine l (unwritten (l .line) (length output - written))
+
+abbrev filled : Listing → List ℕ → ℕ → List ℕ
+filled l output written = take written output ++ over (said l output written) (drop written output)
+
+-- text in two parts over an output
+in-two-parts : (front rest w t : List ℕ) → front ++ over (w ++ t) rest ≡ (front ++ w) ++ over t (drop (length w) rest)
+in-two-parts front rest w t =
+    ap (λ (n : ℕ). front ++ ((w ++ t) ++ drop n rest)) (length-append w t)
+    ∙ ap (λ (d : List ℕ). front ++ ((w ++ t) ++ d)) (sym (drop-drop (length t) (length w) rest))
+    ∙ ap (λ (d : List ℕ). front ++ d) (append-assoc w t (drop (length t) (drop (length w) rest)))
+    ∙ sym (append-assoc front w (t ++ drop (length t) (drop (length w) rest)))
+
+module _ (l : Listing) (output : List ℕ) (written : ℕ) (inside : written ≤ length output) where
+  short : length (said l output written) ≤ length (drop written output)
+  short = omega (arith, fits (l .line) (length output - written), length-drop written output)
+
+  filled-length : length (filled l output written) ≡ length output
+  filled-length =
+      let w = said l output written in
+      let rest : length (over w (drop written output)) ≡ length (drop written output) = length-front (drop written output) w (length w) (sym (length-take-le (length w) (drop written output) short)) in
+      length-append (take written output) (over w (drop written output))
+      ∙ omega (arith, rest, length-take-le written output inside, length-drop written output)
+
+  front-length : length (take written output ++ said l output written) ≡ written + length (said l output written)
+  front-length =
+      length-append (take written output) (said l output written)
+      ∙ ap (λ (n : ℕ). n + length (said l output written)) (length-take-le written output inside)
+
+  regrouped : filled l output written ≡ (take written output ++ said l output written) ++ drop (length (said l output written)) (drop written output)
+  regrouped = sym (append-assoc (take written output) (said l output written) (drop (length (said l output written)) (drop written output)))
+
+  turned : (taken : ℕ) (p : Piece) → onceRead taken written output (behind (said l output written) p) ≡ onceRead (taken + 1) (written + length (said l output written)) (filled l output written) p
+  turned taken p =
+      let w = said l output written in
+      let n = written + length w in
+      let one : taken + (p .taken + 1) ≡ taken + 1 + p .taken = omega arith in
+      let more : written + length (w ++ p .text) ≡ n + length (p .text) = omega (arith, length-append w (p .text)) in
+      let front : take n (filled l output written) ≡ take written output ++ w = ap (take n) regrouped ∙ take-at (take written output ++ w) (drop (length w) (drop written output)) n front-length in
+      let rest : drop n (filled l output written) ≡ drop (length w) (drop written output) = ap (drop n) regrouped ∙ drop-at (take written output ++ w) (drop (length w) (drop written output)) n front-length in
+      ap₂ {C = Read} (λ (i j : ℕ). (i, j, p .next, take written output ++ over (w ++ p .text) (drop written output))) one more
+      ∙ ap {B = Read} (λ (o : List ℕ). (taken + 1 + p .taken, n + length (p .text), p .next, o))
+      (in-two-parts (take written output) (drop written output) w (p .text)
+      ∙ ap₂ (λ (a b : List ℕ). a ++ over (p .text) b) (sym front) (sym rest))
+
+  -- a turn: a byte is taken, and what waited is written
+  goes-on : (input : List ℕ) (taken : ℕ) → taken < length input → stops l (length output - written) ≡ false → comesTo input taken l output written ≡ comesTo input (taken + 1) (absorbed (left l output written) (getD input taken 0)) (filled l output written) (written + length (said l output written))
+  goes-on input taken more on =
+      let room = length output - written in
+      let w = said l output written in
+      let next = absorbed (left l output written) (getD input taken 0) in
+      let first : drop taken input ≡ getD input taken 0 ∷ drop (taken + 1) input = rw (add-one, drop-cons input taken 0) in
+      let less : room - length w ≡ length (filled l output written) - (written + length w) = omega (arith, filled-length) in
+      ap (λ (i : List ℕ). onceRead taken written output (pieceOf l i room)) first
+      ∙ ap (λ (t : Bool). onceRead taken written output (cond t (flushedOnly l room) (behind w (pieceOf next (drop (taken + 1) input) (room - length w))))) on
+      ∙ turned taken (pieceOf next (drop (taken + 1) input) (room - length w))
+      ∙ ap (λ (n : ℕ). onceRead (taken + 1) (written + length w) (filled l output written) (pieceOf next (drop (taken + 1) input) n)) less
+
+  -- no turn more
+  ends-with : (taken : ℕ) (p : Piece) → p ≡ flushedOnly l (length output - written) → onceRead taken written output p ≡ (taken, written + length (said l output written), left l output written, filled l output written)
+  ends-with taken p e =
+      let none : taken + 0 ≡ taken = omega arith in
+      ap (onceRead taken written output) e
+      ∙ ap {B = Read} (λ (n : ℕ). (n, written + length (said l output written), left l output written, filled l output written)) none
+
+  stops-at-end : (input : List ℕ) (taken : ℕ) → length input ≤ taken → comesTo input taken l output written ≡ (taken, written + length (said l output written), left l output written, filled l output written)
+  stops-at-end input taken over-all =
+      ends-with taken _ (ap (λ (i : List ℕ). pieceOf l i (length output - written)) (drop-of-length-le input over-all))
+
+  stops-here : (input : List ℕ) (taken : ℕ) → taken < length input → stops l (length output - written) ≡ true → comesTo input taken l output written ≡ (taken, written + length (said l output written), left l output written, filled l output written)
+  stops-here input taken more stop =
+      let room = length output - written in
+      let w = said l output written in
+      let first : drop taken input ≡ getD input taken 0 ∷ drop (taken + 1) input = rw (add-one, drop-cons input taken 0) in
+      let next = absorbed (left l output written) (getD input taken 0) in
+      ends-with taken _
+      (ap (λ (i : List ℕ). pieceOf l i room) first
+      ∙ ap (λ (t : Bool). cond t (flushedOnly l room) (behind w (pieceOf next (drop (taken + 1) input) (room - length w)))) stop)
+
+-- an output whose part from a place on is now ys
+abbrev back : List ℕ → ℕ → List ℕ → List ℕ
+back output written ys = take written output ++ (ys ++ drop (length output - written) (drop written output))
+
+back-is : (output : List ℕ) (written : ℕ) (ys : List ℕ) → back output written ys ≡ take written output ++ ys
+back-is output written ys =
+    let none : length (drop written output) ≤ length output - written = omega (arith, length-drop written output) in
+    ap (λ (d : List ℕ). take written output ++ (ys ++ d)) (drop-of-length-le (drop written output) none)
+    ∙ ap (λ (d : List ℕ). take written output ++ d) (append-nil ys)
+
+-- the same with what the flush of the part that was lent came to
+module _ (l : Listing) (output : List ℕ) (written : ℕ) (inside : written ≤ length output) (r : Flushed) (ys : List ℕ) (done : flushOutcome r ys ≡ flushed (l .line) (take (length output - written) (drop written output))) where
+  of-part : flushOutcome r ys ≡ (length (said l output written), unwritten (l .line) (length output - written), over (said l output written) (drop written output))
+  of-part =
+      let rest = drop written output in
+      done
+      ∙ ap (flushed (l .line)) (take-all (length output - written) rest (omega (arith, length-drop written output)))
+      ∙ ap {B = ℕ × Line × List ℕ} (λ (n : ℕ). (length (writes (l .line) n), unwritten (l .line) n, over (writes (l .line) n) rest)) (length-drop written output)
+
+  counted : r .count ≡ length (said l output written)
+  counted = ap (λ (x : ℕ × Line × List ℕ). x .0) of-part
+
+  line-left : r .line ≡ unwritten (l .line) (length output - written)
+  line-left = ap (λ (x : ℕ × Line × List ℕ). x .1) of-part
+
+  part-filled : back output written ys ≡ filled l output written
+  part-filled = back-is output written ys ∙ ap (λ (x : ℕ × Line × List ℕ). take written output ++ x .2) of-part
+
+  pub count-fits : written + r .count ≤ length output
+  count-fits = omega (arith, counted, fits (l .line) (length output - written))
+
+  pub back-length : length (back output written ys) ≡ length output
+  back-length = ap length part-filled ∙ filled-length l output written inside
+
+  pub stays-inside : written + r .count ≤ length (back output written ys)
+  stays-inside = omega (arith, count-fits, back-length)
+
+  left-is : (m : Listing) → m ≡ withLine l (r .line) → m ≡ left l output written
+  left-is m e = e ∙ ap (withLine l) line-left
+
+  ended-is : (m : Listing) → m ≡ withLine l (r .line) → m .ended ≡ l .ended
+  ended-is m e = ap (λ (x : Listing). x .ended) e
+
+  more-is : hasMore (r .line) ≡ ltb (length output - written) (waiting (l .line))
+  more-is = ap hasMore line-left ∙ left-where-more (l .line) (length output - written)
+
+  stopped : (taken : ℕ) (m : Listing) → m ≡ withLine l (r .line) → _≡_ {A = Read} (taken, written + r .count, m, back output written ys) (taken, written + length (said l output written), left l output written, filled l output written)
+  stopped taken m e =
+      ap₂ {C = Read} (λ (n : ℕ) (x : Listing). (taken, written + n, x, back output written ys)) counted (left-is m e)
+      ∙ ap {B = Read} (λ (o : List ℕ). (taken, written + length (said l output written), left l output written, o)) part-filled
+
+  pub at-end : (input : List ℕ) (taken : ℕ) (m : Listing) → length input ≤ taken → m ≡ withLine l (r .line) → (taken, written + r .count, m, back output written ys) ≡ comesTo input taken l output written
+  at-end input taken m over-all e = stopped taken m e ∙ sym (stops-at-end l output written inside input taken over-all)
+
+  pub where-more-is-left : (input : List ℕ) (taken : ℕ) (m : Listing) → taken < length input → m ≡ withLine l (r .line) → hasMore (r .line) ≡ true → (taken, written + r .count, m, back output written ys) ≡ comesTo input taken l output written
+  where-more-is-left input taken m more e some =
+      stopped taken m e ∙ sym (stops-here l output written inside input taken more (stop-by (l .ended) (sym more-is ∙ some)))
+    where
+      stop-by : (t : Bool) {b : Bool} → b ≡ true → cond t true b ≡ true
+      stop-by true e = refl
+      stop-by false e = e
+
+  pub where-ended : (input : List ℕ) (taken : ℕ) (m : Listing) → taken < length input → m ≡ withLine l (r .line) → m .ended ≡ true → (taken, written + r .count, m, back output written ys) ≡ comesTo input taken l output written
+  where-ended input taken m more e end =
+      let b = ltb (length output - written) (waiting (l .line)) in
+      stopped taken m e ∙ sym (stops-here l output written inside input taken more (ap (λ (t : Bool). cond t true b) (sym (ended-is m e) ∙ end)))
+
+  pub one-turn : (input : List ℕ) (taken : ℕ) (m n : Listing) → taken < length input → m ≡ withLine l (r .line) → hasMore (r .line) ≡ false → m .ended ≡ false → n ≡ absorbed m (getD input taken 0) → comesTo input (taken + 1) n (back output written ys) (written + r .count) ≡ comesTo input taken l output written
+  one-turn input taken m n more e none going next =
+      let w = said l output written in
+      let on = ap₂ (λ (t b : Bool). cond t true b) (sym (ended-is m e) ∙ going) (sym more-is ∙ none) in
+      ap₂ (λ (o : List ℕ) (k : ℕ). comesTo input (taken + 1) n o (written + k)) part-filled counted
+      ∙ ap (λ (x : Listing). comesTo input (taken + 1) x (filled l output written) (written + length w)) (next ∙ ap (λ (x : Listing). absorbed x (getD input taken 0)) (left-is m e))
+      ∙ sym (goes-on l output written inside input taken more on)

@@ -1,0 +1,81 @@
+-- What waits of a line: how much, and the bytes at its places.
+-- Assumes nothing.
+use mathlib.Core.Bool.{Bool, true, false, cond}
+use mathlib.Core.List.{List, [], _∷_}
+use mathlib.Core.Path.{_≡_, refl, ap, sym, _∙_}
+use Prim.Native.Nat.{ℕ, zero, suc, _+_, _-_, _≤_, _<_}
+use native.Mathlib.Omega.{arith}
+use borrow.Author.Tests.{le-leb, le-ltb, leb-false, leb-true, lt-ltb, ltb-false, ltb-true}
+use lib.Dec.{leb, ltb}
+use lib.ListN.{getD, length, length-take, take}
+use lib.Seq.{length-take-le, take-all}
+use Rattle.lines.specs.Line.{bytesFrom, hasMore, pending, unwritten, waiting, writes}
+use Rattle.lines.specs.declared.line.Line.{Line}
+
+-- the place behind the last byte that waits: the length, but never behind the 96th
+abbrev lastPlace : ℕ → ℕ
+lastPlace len = cond (leb 96 len) 96 len
+
+last-place-by : (len : ℕ) (t : Bool) → leb 96 len ≡ t → (cond t 96 len ≤ 96) × (cond t 96 len ≤ len) × ((n : ℕ) → n < 96 → n < len → n < cond t 96 len)
+last-place-by len true e = (omega arith, omega (arith, leb-true 96 len e), λ n small less. omega arith)
+last-place-by len false e = (omega (arith, leb-false 96 len e), omega arith, λ n small less. omega arith)
+
+-- no more wait than are in front of either
+pub behind-96 : (l : Line) (count : ℕ) → 96 ≤ l .at + count → waiting l ≤ count
+behind-96 l count h = omega (arith, last-place-by (l .len) (leb 96 (l .len)) refl .0)
+
+pub behind-length : (l : Line) (count : ℕ) → l .len ≤ l .at + count → waiting l ≤ count
+behind-length l count h = omega (arith, last-place-by (l .len) (leb 96 (l .len)) refl .1)
+
+pub none-behind-96 : (l : Line) → 96 ≤ l .at → hasMore l ≡ false
+none-behind-96 l h = le-ltb 0 (waiting l) (behind-96 l 0 (omega arith))
+
+pub more-before-both : (l : Line) (count : ℕ) → l .at + count < 96 → l .at + count < l .len → count < waiting l
+more-before-both l count small less =
+    omega (arith, last-place-by (l .len) (leb 96 (l .len)) refl .2 (l .at + count) small less)
+
+-- two tests of an order that hold together
+same-test : (a b c d : ℕ) → (a < b → c < d) → (b ≤ a → d ≤ c) → ltb a b ≡ ltb c d
+same-test a b c d if-less if-not = same-by (ltb a b) refl
+  where
+    same-by : (t : Bool) → ltb a b ≡ t → ltb a b ≡ ltb c d
+    same-by true e = e ∙ sym (lt-ltb c d (if-less (ltb-true a b e)))
+    same-by false e = e ∙ sym (le-ltb c d (if-not (ltb-false a b e)))
+
+pub more-by-length : (l : Line) → l .at < 96 → ltb (l .at) (l .len) ≡ hasMore l
+more-by-length l small =
+    let last = last-place-by (l .len) (leb 96 (l .len)) refl in
+    same-test (l .at) (l .len) 0 (waiting l)
+    (λ less. omega (arith, last .2 (l .at) small less))
+    (λ more. omega (arith, last .1))
+
+-- as many bytes as wait, and each is the line's at its place
+how-many-from : (bytes : List ℕ) (at n : ℕ) → length (bytesFrom bytes at n) ≡ n
+how-many-from bytes at zero = refl
+how-many-from bytes at (suc n) = ap suc (how-many-from bytes (at + 1) n)
+
+pub how-many : (l : Line) → length (pending l) ≡ waiting l
+how-many l = how-many-from (l .bytes) (l .at) (waiting l)
+
+byte-from : (bytes : List ℕ) (at n i : ℕ) → i < n → getD (bytesFrom bytes at n) i 0 ≡ getD bytes (at + i) 0
+byte-from bytes at zero i h = absurd (omega arith)
+byte-from bytes at (suc n) zero h =
+    let here : at ≡ at + 0 = omega arith in
+    ap (λ (k : ℕ). getD bytes k 0) here
+byte-from bytes at (suc n) (suc i) h =
+    let on : at + 1 + i ≡ at + suc i = omega arith in
+    byte-from bytes (at + 1) n i (omega arith) ∙ ap (λ (k : ℕ). getD bytes k 0) on
+
+pub byte-at : (l : Line) (i : ℕ) → i < waiting l → getD (pending l) i 0 ≡ getD (l .bytes) (l .at + i) 0
+byte-at l i h = byte-from (l .bytes) (l .at) (waiting l) i h
+
+-- a flush writes no more than there is room for, and leaves something where more waits than that
+pub fits : (l : Line) (room : ℕ) → length (writes l room) ≤ room
+fits l room = omega (arith, length-take room (pending l))
+
+pub left-where-more : (l : Line) (room : ℕ) → hasMore (unwritten l room) ≡ ltb room (waiting l)
+left-where-more l room =
+    sym
+    (same-test room (waiting l) 0 (waiting (unwritten l room))
+    (λ more. omega (arith, length-take-le room (pending l) (omega (arith, how-many l))))
+    (λ enough. omega (arith, how-many l, ap length (take-all room (pending l) (omega (arith, how-many l))))))

@@ -1,0 +1,50 @@
+-- `lines::listing::Listing::end` meets its contract, by whether the stream has ended and whether half a pair is left.
+-- Assumes nothing.
+use borrow.Author.Needs.{needs}
+use mathlib.Core.Bool.{true}
+use mathlib.Core.Path.{ap}
+use Rattle.lines.specs.Pieces.{endedListing}
+use Rattle.lines.specs.declared.line.Line.{Line}
+use Rattle.lines.specs.declared.listing.Half.the-variants as half
+use Rattle.lines.specs.declared.listing.Listing.{Listing}
+use Rattle.lines.proofs.listing.Listing.end.Statement.{statement}
+use Rattle.lines.proofs.listing.Listing.end.Tie as tie
+
+returns : tie.Need-returns
+unfolding endedListing
+returns c = rw (c .if1 .taken)
+
+enum-told : tie.Need-enum-told
+enum-told c = search needs
+
+put-last-line-requires : tie.Need-put-last-line-requires
+put-last-line-requires c κs = search needs
+
+enum-told-2 : tie.Need-enum-told-2
+enum-told-2 c = search needs
+
+refused-by-requires : tie.Need-refused-by-requires
+refused-by-requires c κs = search needs
+
+returns-2 : tie.Need-returns-2
+unfolding endedListing
+returns-2 c =
+    let l = c .before .before .before .before .before .before .args .self in
+    rw (c .before .before .before .before .before .if1 .left, c .before .enum-told .given .1)
+    (ap {B = Listing} (λ (x : Line). record { receiver = l .receiver; half = half.Absent; pairs = l .pairs; refused = l .refused; ended = true; line = x }) (c .put-last-line .ensures))
+
+returns-3 : tie.Need-returns-3
+unfolding endedListing
+returns-3 c = rw (c .before .before .before .before .before .if1 .left, c .before .enum-told2 .given .1) (c .refused-by .ensures)
+
+pub end-spec : {M : Type 1} → statement M
+end-spec =
+    tie.close
+    (tie.spec
+    returns
+    enum-told
+    put-last-line-requires
+    enum-told-2
+    refused-by-requires
+    returns-2
+    returns-3)

@@ -1,0 +1,55 @@
+-- A line that waits to be written: the bytes of a fixed piece of memory, 96 of them, between two places.
+use Prim.Native.Nat.{ℕ, zero, suc, _+_, _-_}
+use mathlib.Core.Bool.{Bool, cond}
+use mathlib.Core.List.{List, [], _∷_, _++_}
+use lib.Dec.{leb, ltb}
+use lib.ListN.{drop, getD, length, replicate, set, take}
+use Rattle.lines.specs.declared.line.Flushed.{Flushed}
+use Rattle.lines.specs.declared.line.Line.{Line}
+
+abbrev pub emptyLine : Line
+emptyLine = record { bytes = replicate 96 0; at = 0; len = 0 }
+
+-- a byte more, where there is a place for it
+abbrev pub put : Line → ℕ → Line
+put l b = cond (leb 96 (l .len)) l (record { bytes = set (l .bytes) (l .len) b; at = l .at; len = l .len + 1 })
+
+abbrev pub putAll : Line → List ℕ → Line
+putAll l [] = l
+putAll l (b ∷ bs) = putAll (put l b) bs
+
+-- the n bytes from a place on
+abbrev pub bytesFrom : List ℕ → ℕ → ℕ → List ℕ
+bytesFrom bytes at zero = []
+bytesFrom bytes at (suc n) = getD bytes at 0 ∷ bytesFrom bytes (at + 1) n
+
+-- how many bytes wait, and which
+abbrev pub waiting : Line → ℕ
+waiting l = cond (leb 96 (l .len)) 96 (l .len) - l .at
+
+abbrev pub pending : Line → List ℕ
+pending l = bytesFrom (l .bytes) (l .at) (waiting l)
+
+abbrev pub hasMore : Line → Bool
+hasMore l = ltb 0 (waiting l)
+
+-- what is written where there is so much room, and what is left of the line then
+abbrev pub writes : Line → ℕ → List ℕ
+writes l room = take room (pending l)
+
+abbrev pub unwritten : Line → ℕ → Line
+unwritten l room = record { bytes = l .bytes; at = l .at + length (writes l room); len = l .len }
+
+-- bytes in front of what was there
+abbrev pub over : List ℕ → List ℕ → List ℕ
+over bytes output = bytes ++ drop (length bytes) output
+
+abbrev pub flushed : Line → List ℕ → ℕ × Line × List ℕ
+flushed l output = (
+  length (writes l (length output)),
+  unwritten l (length output),
+  over (writes l (length output)) output,
+)
+
+abbrev pub flushOutcome : Flushed → List ℕ → ℕ × Line × List ℕ
+flushOutcome r output = (r .count, r .line, output)

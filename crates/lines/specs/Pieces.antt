@@ -1,0 +1,129 @@
+-- The listing in pieces: what a state says yet, what a byte does to it, and how much input is taken and text written where
+-- there is so much of either. Any state may be handed in; one that no call leaves is listed as it stands.
+use Prim.Native.Nat.{ℕ, _+_, _-_}
+use mathlib.Core.Bool.{Bool, true, false, cond, _&&_, not}
+use mathlib.Core.List.{List, [], _∷_, _++_}
+use mathlib.Core.Option.{Option}
+use lib.Dec.{leb, ltb}
+use lib.ListN.{length}
+use Rattle.code.specs.Outcome.{Outcome, answer, refused}
+use Rattle.code.specs.Write.{pair}
+use Rattle.event.specs.declared.event.Cea608.{Cea608}
+use Rattle.lines.specs.Line.{emptyLine, hasMore, over, putAll, unwritten, waiting, writes}
+use Rattle.lines.specs.Listing.{mostPairs}
+use Rattle.lines.specs.Words.{lastLine, line, lineOf, refusedWords}
+use Rattle.lines.specs.declared.line.Line.{Line}
+use Rattle.lines.specs.declared.listing.Half.{Half}
+use Rattle.lines.specs.declared.listing.Half.the-variants as half
+use Rattle.lines.specs.declared.listing.Listing.{Listing}
+use Rattle.lines.specs.declared.listing.Progress.{Progress}
+use Rattle.receiver.specs.Receiver.{Stepped, fresh, step}
+use Rattle.receiver.specs.declared.state.Cea608State.{Cea608State}
+
+abbrev pub freshListing : Listing
+freshListing = record { receiver = fresh; half = half.Absent; pairs = 0; refused = 0; ended = false; line = emptyLine }
+
+-- one refusal more. More than one behind the limit of pairs there cannot be.
+abbrev pub oneMore : ℕ → ℕ
+oneMore q = cond (leb q mostPairs) (q + 1) q
+
+abbrev pub counted : Outcome (Option Cea608) → ℕ → ℕ
+counted (answer e) q = q
+counted (refused n) q = oneMore q
+
+-- the stream ends with these words of its last pair, and the last line
+abbrev pub ending : Listing → Line → List ℕ → ℕ → Listing
+ending l begun words q = record {
+  receiver = l .receiver;
+  half = half.Absent;
+  pairs = l .pairs;
+  refused = q;
+  ended = true;
+  line = putAll begun (words ++ lastLine (l .pairs) q);
+}
+
+abbrev pub refusedBy : ℕ → Listing → Line → Listing
+refusedBy n l begun = ending l begun (line (l .pairs) (refusedWords n)) (oneMore (l .refused))
+
+abbrev pub withHalf : Listing → ℕ → Listing
+withHalf l a = record {
+  receiver = l .receiver;
+  half = half.Byte a;
+  pairs = l .pairs;
+  refused = l .refused;
+  ended = l .ended;
+  line = l .line;
+}
+
+abbrev pub pairRead : Listing → Cea608State → ℕ → Line → Listing
+pairRead l receiver q x = record {
+  receiver = receiver;
+  half = half.Absent;
+  pairs = l .pairs + 1;
+  refused = q;
+  ended = l .ended;
+  line = x;
+}
+
+abbrev pub afterPair : Listing → Stepped → Listing
+afterPair l r = pairRead l (r .1) (counted (r .0) (l .refused)) (putAll emptyLine (lineOf (l .pairs) (r .0)))
+
+abbrev pub withByte : Listing → Half → ℕ → Listing
+withByte l half.Absent a = withHalf l a
+withByte l (half.Byte x) a = afterPair l (step (l .receiver) (pair x a))
+
+-- a byte, where nothing waits to be written
+unfoldable pub absorbed : Listing → ℕ → Listing
+absorbed l a = cond (leb mostPairs (l .pairs)) (refusedBy 10 l emptyLine) (withByte l (l .half) a)
+
+-- the end of the input, behind what waits
+abbrev pub endBy : Listing → Half → Listing
+endBy l half.Absent = ending l (l .line) [] (l .refused)
+endBy l (half.Byte x) = refusedBy 9 l (l .line)
+
+unfoldable pub endedListing : Listing → Listing
+endedListing l = cond (l .ended) l (endBy l (l .half))
+
+abbrev pub withLine : Listing → Line → Listing
+withLine l x = record {
+  receiver = l .receiver;
+  half = l .half;
+  pairs = l .pairs;
+  refused = l .refused;
+  ended = l .ended;
+  line = x;
+}
+
+-- how much is taken and written: what waits goes first, and no byte is taken while some of it is left, or after the end
+pub record Piece : Type 0 where
+  pub taken : ℕ
+  pub text : List ℕ
+  pub next : Listing
+
+abbrev pub stops : Listing → ℕ → Bool
+stops l room = cond (l .ended) true (ltb room (waiting (l .line)))
+
+abbrev pub flushedOnly : Listing → ℕ → Piece
+flushedOnly l room = record { taken = 0; text = writes (l .line) room; next = withLine l (unwritten (l .line) room) }
+
+abbrev pub behind : List ℕ → Piece → Piece
+behind written p = record { taken = p .taken + 1; text = written ++ p .text; next = p .next }
+
+abbrev pub pieceOf : Listing → List ℕ → ℕ → Piece
+pieceOf l [] room = flushedOnly l room
+pieceOf l (a ∷ rest) room =
+    cond (stops l room) (flushedOnly l room)
+    (behind (writes (l .line) room) (pieceOf (absorbed (withLine l (unwritten (l .line) room)) a) rest (room - length (writes (l .line) room))))
+
+abbrev pub readOutcome : Progress → List ℕ → ℕ × ℕ × Listing × List ℕ
+readOutcome r output = (r .taken, r .written, r .listing, output)
+
+abbrev pub readAs : Piece → List ℕ → ℕ × ℕ × Listing × List ℕ
+readAs p output = (p .taken, length (p .text), p .next, over (p .text) output)
+
+unfoldable pub readListing : Listing → List ℕ → List ℕ → ℕ × ℕ × Listing × List ℕ
+readListing l input output = readAs (pieceOf l input (length output)) output
+
+-- nothing more will come
+abbrev pub isDone : Listing → Bool
+isDone l = cond (hasMore (l .line)) false (l .ended)

@@ -1,0 +1,89 @@
+-- The words of the listing and its lines, from 01's section "The listing". A line begins with the number of its pair.
+use Prim.Native.Nat.{ℕ, _+_, _/_, _%_}
+use mathlib.Core.Bool.{Bool, true, false, cond}
+use mathlib.Core.List.{List, [], _∷_, _++_}
+use mathlib.Core.Option.{Option, none, some}
+use lib.Dec.{leb, ltb}
+use Rattle.code.specs.Channel.{channelId}
+use Rattle.code.specs.Characters.{points}
+use Rattle.code.specs.MidRow.{isUnderlined, midRowNumber}
+use Rattle.code.specs.Outcome.{Outcome, answer, refused}
+use Rattle.code.specs.Preamble.{styleOf}
+use Rattle.code.specs.declared.channel.Channel.{Channel}
+use Rattle.code.specs.declared.character.Character.{Character}
+use Rattle.code.specs.declared.character.Character.the-variants as character
+use Rattle.event.specs.declared.event.Cea608.{Cea608}
+use Rattle.event.specs.declared.event.Cea608.the-variants as event
+use Rattle.event.specs.declared.mode.Mode.{Mode}
+use Rattle.event.specs.declared.mode.Mode.the-variants as mode
+
+-- a number has a digit at each place of ten that it reaches, and one at the last
+abbrev pub atPlace : ℕ → ℕ → List ℕ
+atPlace p n = cond (leb p n) ((0x30 + n / p % 10) ∷ []) []
+
+unfoldable pub decimal : ℕ → List ℕ
+decimal n =
+    atPlace 1000000000 n ++ (atPlace 100000000 n ++ (atPlace 10000000 n ++ (atPlace 1000000 n ++ (atPlace 100000 n
+    ++ (atPlace 10000 n ++ (atPlace 1000 n ++ (atPlace 100 n ++ (atPlace 10 n ++ ((0x30 + n % 10) ∷ [])))))))))
+
+-- four hex digits with capitals
+abbrev pub hexDigit : ℕ → ℕ
+hexDigit d = cond (ltb d 10) (0x30 + d) (0x37 + d)
+
+abbrev pub hex : ℕ → List ℕ
+hex n = hexDigit (n / 4096 % 16) ∷ hexDigit (n / 256 % 16) ∷ hexDigit (n / 16 % 16) ∷ hexDigit (n % 16) ∷ []
+
+abbrev pub flagDigit : Bool → ℕ
+flagDigit true = 0x31
+flagDigit false = 0x30
+
+-- C is 1 or 2
+abbrev pub channelDigit : Channel → ℕ
+channelDigit ch = 0x30 + channelId ch
+
+abbrev pub characterWord : Character → List ℕ
+characterWord character.Absent = points "-"
+characterWord (character.Point c) = hex c
+
+abbrev pub modeWord : Mode → List ℕ
+modeWord mode.PopOn = points "pop"
+modeWord mode.PaintOn = points "paint"
+modeWord mode.RollUp2 = points "roll2"
+modeWord mode.RollUp3 = points "roll3"
+modeWord mode.RollUp4 = points "roll4"
+
+abbrev space : ℕ
+space = 0x20
+
+abbrev pub eventWords : Cea608 → List ℕ
+eventWords (event.Text t) =
+    points "text " ++ (channelDigit (t .channel) ∷ space ∷ flagDigit (t .«needs_backspace») ∷ space ∷ (characterWord (t .char1) ++ (space ∷ characterWord (t .char2))))
+eventWords (event.NewMode ch m) = points "mode " ++ (channelDigit ch ∷ space ∷ modeWord m)
+eventWords (event.EraseDisplay ch) = points "erase " ++ (channelDigit ch ∷ [])
+eventWords (event.EraseNonDisplay ch) = points "erasehidden " ++ (channelDigit ch ∷ [])
+eventWords (event.CarriageReturn ch) = points "return " ++ (channelDigit ch ∷ [])
+eventWords (event.Backspace ch) = points "back " ++ (channelDigit ch ∷ [])
+eventWords (event.EndOfCaption ch) = points "end " ++ (channelDigit ch ∷ [])
+eventWords (event.TabOffset ch n) = points "tab " ++ (channelDigit ch ∷ space ∷ decimal n)
+eventWords (event.DeleteToEndOfRow ch) = points "delete " ++ (channelDigit ch ∷ [])
+eventWords (event.Preamble ch p) =
+    points "row " ++ (channelDigit ch ∷ space ∷ (decimal (p .row) ++ (space ∷ (decimal (styleOf (p .ty)) ++ (space ∷ flagDigit (p .underline) ∷ [])))))
+eventWords (event.MidRowChange ch m) =
+    points "mid " ++ (channelDigit ch ∷ space ∷ (decimal (midRowNumber m) ++ (space ∷ flagDigit (isUnderlined m) ∷ [])))
+
+abbrev pub refusedWords : ℕ → List ℕ
+refusedWords n = points "refused " ++ decimal n
+
+-- a line: the number of the pair, what there is to say, and the end of the line
+abbrev pub line : ℕ → List ℕ → List ℕ
+line k words = decimal k ++ (space ∷ (words ++ (0x0A ∷ [])))
+
+-- the line of what a pair gave, if it gave anything
+abbrev pub lineOf : ℕ → Outcome (Option Cea608) → List ℕ
+lineOf k (answer none) = []
+lineOf k (answer (some e)) = line k (eventWords e)
+lineOf k (refused n) = line k (refusedWords n)
+
+-- the last line: whole pairs read, and all lines that say refused
+abbrev pub lastLine : ℕ → ℕ → List ℕ
+lastLine p q = points "pairs " ++ (decimal p ++ (points " refused " ++ (decimal q ++ (0x0A ∷ []))))
