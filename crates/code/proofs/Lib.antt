@@ -11,5 +11,4 @@ pub mod Numbers
 pub mod OneAnswer
 pub mod RoundTrip
 pub mod TableRules
-pub mod TriedByHand
 pub mod Written

@@ -22,6 +22,7 @@ use Rattle.code.specs.declared.control.CodeField.the-variants.{Of, Absen
 use Rattle.code.specs.declared.control.Control.{Control}
 use Rattle.code.specs.declared.control.Control.the-variants as control
 use Rattle.code.specs.declared.control.ControlCode.{ControlCode}
+use Rattle.code.specs.declared.pair.Pair.{Pair}
 use Rattle.code.specs.declared.read.FromData.{FromData}
 use Rattle.code.specs.declared.read.FromData.the-variants.{Codes, InvalidParity}
 use Rattle.code.specs.declared.symbol.SymbolRow.{SymbolRow}
@@ -102,6 +103,13 @@ single b = cond (eqb b 0) code.Nul (cond (leb 0x20 b) (code.Letter (letterAt (b 
 -- the codes of two stripped bytes: a command and NUL, or two single codes
 abbrev pub codesOf : ℕ → ℕ → Code × Code
 codesOf a b = cond (isCommand a) (code.Control (commandOf a b), code.Nul) (single a, single b)
+
+-- of a received pair: both bytes have odd parity; and its first byte is that of a control code
+abbrev pub isOddPair : Pair → Bool
+isOddPair p = isOdd (p .0) && isOdd (p .1)
+
+abbrev pub isCommandPair : Pair → Bool
+isCommandPair p = isCommand (stripped (p .0))
 
 -- the codes of a received pair; 1: a byte with an even count of ones
 unfoldable pub readPair : ℕ → ℕ → Outcome (Code × Code)

@@ -33,6 +33,15 @@ pub code-is-sent : (c : Code) → isInside c ≡ true → SentPair (pairOf c)
 unfolding pairOf
 code-is-sent c e = written c (writeCode c) refl (ap isAnswer (sym (domain-is-written c)) ∙ e)
 
+-- so that a code in the domain goes out as it is written, and never as the 80 80 of one that cannot be
+as-written : (c : Code) (o : Outcome (Pair × ℕ)) → writeCode c ≡ o → isAnswer (settled o) ≡ true → writeCode c ≡ answer (sent o, byteLen c)
+as-written c (answer x) e inside = e ∙ ap {B = Outcome (Pair × ℕ)} (λ (n : ℕ). answer (x .0, n)) (written-is-sent c (x .0) (x .1) e .1)
+as-written c (refused n) e inside = let z : _≡_ {A = ℕ} 0 1 = cc in absurd (omega arith)
+
+pub code-goes-out-as-written : (c : Code) → isInside c ≡ true → writeCode c ≡ answer (pairOf c, byteLen c)
+unfolding pairOf
+code-goes-out-as-written c e = as-written c (writeCode c) refl (ap isAnswer (sym (domain-is-written c)) ∙ e)
+
 space-sent : Sent 0x20
 unfolding ones onesIn
 space-sent = record { odd = refl; small = lit< tt }

@@ -3,4 +3,3 @@ pub mod Copies
 pub mod FrameRate
 pub mod OneAnswer
 pub mod Step
-pub mod TriedByHand

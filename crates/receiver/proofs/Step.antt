@@ -1,7 +1,7 @@
 -- What one pair does: a refusal changes nothing, text is never skipped, and a command that has no event still sets the
 -- channel.
 -- Assumes nothing.
-use mathlib.Core.Bool.{Bool, true, false, cond, _&&_}
+use mathlib.Core.Bool.{Bool, true, false, cond}
 use mathlib.Core.List.{[], _∷_, map}
 use mathlib.Core.Option.{Option, none, some}
 use mathlib.Core.Path.{_≡_, refl, ap, sym, _∙_}
@@ -11,7 +11,7 @@ use Rattle.code.proofs.Written.{even-is-refused, odd-is-read, read-as-text, sin
 use Rattle.code.specs.Code.{controlChar}
 use Rattle.code.specs.Outcome.{Outcome, answer, refused}
 use Rattle.code.specs.Parity.{isOdd, stripped}
-use Rattle.code.specs.Read.{codesOf, isCommand, readPair, single}
+use Rattle.code.specs.Read.{codesOf, isCommand, isOddPair, readPair, single}
 use Rattle.code.specs.declared.channel.Channel.{Channel}
 use Rattle.code.specs.declared.code.Code.{Code}
 use Rattle.code.specs.declared.code.Code.the-variants as code
@@ -51,9 +51,6 @@ pub hit-is-refused : (s : Cea608State) (p : Pair) (n : ℕ) → readPair (p .0) 
 hit-is-refused s p n h = ap (afterReading s p) h
 
 -- so 1 comes exactly where a byte has an even count of ones
-abbrev pub isOddPair : Pair → Bool
-isOddPair p = isOdd (p .0) && isOdd (p .1)
-
 pub even-is-refused-1 : (s : Cea608State) (p : Pair) → isOddPair p ≡ false → step s p ≡ (refused 1, s)
 even-is-refused-1 s p even = hit-is-refused s p 1 (even-is-refused (p .0) (p .1) even)
 

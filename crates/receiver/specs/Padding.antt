@@ -5,8 +5,7 @@ use mathlib.Core.Bool.{Bool, false}
 use mathlib.Core.List.{List, [], _∷_}
 use mathlib.Core.Logic.{_⊎_}
 use mathlib.Core.Path.{_≡_}
-use Rattle.code.specs.Parity.{stripped}
-use Rattle.code.specs.Read.{isCommand}
+use Rattle.code.specs.Read.{isCommandPair}
 use Rattle.code.specs.Write.{pair}
 use Rattle.code.specs.declared.pair.Pair.{Pair}
 use Rattle.receiver.specs.Receiver.{step}
@@ -20,7 +19,7 @@ padding = pair 0x80 0x80
 -- the last pair is a command, whose repeat may come
 abbrev pub awaits : LastPair → Bool
 awaits last.Absent = false
-awaits (last.Was p) = isCommand (stripped (p .0))
+awaits (last.Was p) = isCommandPair p
 
 -- from this state no repeat is awaited
 abbrev pub Quiet : Cea608State → Type 0

@@ -6,6 +6,7 @@ mod from_bytes;
 mod query;
 mod queue_query;
 mod receiver_query;
+mod sender_query;
 mod to_bytes;
 
 ghost use Prim.Native.Nat.{_+_, _≤_};

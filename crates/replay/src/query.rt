@@ -3,13 +3,15 @@ use crate::code_query;
 use crate::event_query;
 use crate::queue_query;
 use crate::receiver_query;
-use queue::Queue;
+use crate::sender_query;
+use crate::sender_query::SenderAnswered;
 use receiver::Cea608State;
+use sender::Sender;
 
 // What queries change and later queries ask.
 pub(crate) struct State {
     pub receiver: Cea608State,
-    pub queue: Queue,
+    pub sender: Sender,
 }
 
 // An answer, and the state for the next query.
@@ -22,7 +24,7 @@ pub(crate) struct Answered {
 pub(crate) fn fresh() -> State {
     State {
         receiver: Cea608State::new(),
-        queue: Queue::new(),
+        sender: Sender::new(),
     }
 }
 
@@ -38,6 +40,9 @@ pub(crate) fn answer(asked: [u8; 16], state: State) -> Answered {
     let kind = asked[0];
     if queue_query::asks_queue(kind) {
         return ask_queue(asked, state);
+    }
+    if sender_query::asks_sender(kind) {
+        return ask_sender(asked, state);
     }
     if receiver_query::asks_receiver(kind) {
         return ask_receiver(asked, state);
@@ -56,22 +61,31 @@ pub(crate) fn answer(asked: [u8; 16], state: State) -> Answered {
 
 fn ask_queue(asked: [u8; 16], state: State) -> Answered {
     let receiver = state.receiver;
-    let queue = state.queue;
-    let answered = queue_query::answer(queue, asked);
+    let sender = state.sender;
+    with_sender(sender_query::answer_by_queue(sender, asked), receiver)
+}
+
+fn ask_sender(asked: [u8; 16], state: State) -> Answered {
+    let receiver = state.receiver;
+    let sender = state.sender;
+    with_sender(sender_query::answer(sender, asked), receiver)
+}
+
+fn with_sender(answered: SenderAnswered, receiver: Cea608State) -> Answered {
     let bytes = answered.answer;
-    let next = answered.queue;
+    let next = answered.sender;
     Answered {
         bytes: bytes,
         state: State {
             receiver: receiver,
-            queue: next,
+            sender: next,
         },
     }
 }
 
 fn ask_receiver(asked: [u8; 16], state: State) -> Answered {
     let receiver = state.receiver;
-    let queue = state.queue;
+    let sender = state.sender;
     let answered = receiver_query::answer(receiver, asked);
     let bytes = answered.answer;
     let next = answered.receiver;
@@ -79,7 +93,7 @@ fn ask_receiver(asked: [u8; 16], state: State) -> Answered {
         bytes: bytes,
         state: State {
             receiver: next,
-            queue: queue,
+            sender: sender,
         },
     }
 }

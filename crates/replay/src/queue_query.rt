@@ -1,4 +1,4 @@
-// The queries of the queue. They ask one queue, which is kept from query to query.
+// The queries of the queue. They ask one queue, which is kept from query to query: the sender's.
 ghost use Prim.Native.Nat.{_<_};
 use crate::from_bytes;
 use crate::query::not_a_query;
@@ -51,7 +51,7 @@ fn told(answer: [u8; 16], queue: Queue) -> QueueAnswered {
     }
 }
 
-fn refusal(number: u8) -> [u8; 16] {
+pub(crate) fn refusal(number: u8) -> [u8; 16] {
     let mut out = [0u8; 16];
     out[0] = number;
     out
@@ -61,12 +61,16 @@ fn push(queue: Queue, code: Code) -> QueueAnswered {
     let pushed = queue.push(code);
     let next = pushed.queue;
     let answer = pushed.answer;
+    told(push_bytes(answer), next)
+}
+
+pub(crate) fn push_bytes(answer: PushAnswer) -> [u8; 16] {
     match answer {
-        PushAnswer::Accepted => told(refusal(0), next),
-        PushAnswer::UnknownByte => told(refusal(2), next),
-        PushAnswer::NoSuchRow => told(refusal(3), next),
-        PushAnswer::Full => told(refusal(7), next),
-        PushAnswer::IllFormed => told(refusal(12), next),
+        PushAnswer::Accepted => refusal(0),
+        PushAnswer::UnknownByte => refusal(2),
+        PushAnswer::NoSuchRow => refusal(3),
+        PushAnswer::Full => refusal(7),
+        PushAnswer::IllFormed => refusal(12),
     }
 }
 
@@ -74,14 +78,18 @@ fn pop(queue: Queue) -> QueueAnswered {
     let popped = queue.pop();
     let next = popped.queue;
     let answer = popped.answer;
+    told(pop_bytes(answer), next)
+}
+
+pub(crate) fn pop_bytes(answer: PopAnswer) -> [u8; 16] {
     match answer {
         PopAnswer::Sent(pair) => {
             let mut out = [0u8; 16];
             out[1] = pair.0;
             out[2] = pair.1;
-            told(out, next)
+            out
         }
-        PopAnswer::IllFormed => told(refusal(12), next),
+        PopAnswer::IllFormed => refusal(12),
     }
 }
 
@@ -89,37 +97,38 @@ fn n_codes(queue: Queue) -> QueueAnswered {
     let counted = queue.n_codes();
     let next = counted.queue;
     let answer = counted.answer;
+    told(count_bytes(answer), next)
+}
+
+pub(crate) fn count_bytes(answer: CountAnswer) -> [u8; 16] {
     match answer {
         CountAnswer::Codes(n) => {
             let b = eight(n);
-            told(
-                [
-                    0,
-                    b[0],
-                    b[1],
-                    b[2],
-                    b[3],
-                    b[4],
-                    b[5],
-                    b[6],
-                    b[7],
-                    0,
-                    0,
-                    0,
-                    0,
-                    0,
-                    0,
-                    0,
-                ],
-                next,
-            )
+            [
+                0,
+                b[0],
+                b[1],
+                b[2],
+                b[3],
+                b[4],
+                b[5],
+                b[6],
+                b[7],
+                0,
+                0,
+                0,
+                0,
+                0,
+                0,
+                0,
+            ]
         }
-        CountAnswer::IllFormed => told(refusal(12), next),
+        CountAnswer::IllFormed => refusal(12),
     }
 }
 
 // Four bytes as a number, the lowest first.
-fn four(a: u8, b: u8, c: u8, d: u8) -> usize
+pub(crate) fn four(a: u8, b: u8, c: u8, d: u8) -> usize
     ensures { λ r. ⌜ r < 4294967296 ⌝ }
 {
     (a as usize) + (b as usize) * 256 + (c as usize) * 65536 + (d as usize) * 16777216

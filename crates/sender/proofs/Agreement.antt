@@ -3,7 +3,7 @@
 -- line spoiled (`Refused`).
 -- Assumes nothing.
 use mathlib.Core.Bool.{true, true≢false}
-use mathlib.Core.List.{List, [], _++_, append-nil}
+use mathlib.Core.List.{List, [], _∷_, _++_, append-nil}
 use mathlib.Core.Option.{Option, none, some}
 use mathlib.Core.Path.{_≡_, refl, ap, sym, subst, _∙_}
 use lib.Dec.{eqb}
@@ -14,23 +14,31 @@ use Rattle.receiver.specs.Receiver.{fresh}
 use Rattle.sender.proofs.Doubled.{doubled-is-odd, queue-pairs-are-odd, sent-is-doubled}
 use Rattle.sender.proofs.Heard.{doubled-is-heard-once}
 use Rattle.sender.proofs.OneByOne.{line-one-by-one}
-use Rattle.sender.proofs.Refines.{fresh-good}
+use Rattle.sender.proofs.Refines.{fresh-good, push-good, said-idle, send-good}
 use Rattle.sender.proofs.Refused.{the-spoiled-are-refused}
-use Rattle.sender.specs.Agreement.{Act, Agreement, DemandThree, EndsIdle, Line, afterActs, queuePairs, sentBy}
+use Rattle.sender.specs.Agreement.{Act, queueing, sending, DemandThree, EndsIdle, afterActs, queuePairs, sentBy}
 use Rattle.sender.specs.Doubled.{doubled, stillOwed}
+use Rattle.sender.specs.Good.{Good}
 use Rattle.sender.specs.OneByOne.{AllOdd, OneByOne}
-use Rattle.sender.specs.Sender.{freshSender, owedIn, view}
+use Rattle.sender.specs.Sender.{freshSender, pushSender, sendSender, view}
 use Rattle.sender.specs.Sending.{noneOwed}
+use Rattle.sender.specs.declared.sender.Sender.{Sender}
 
 nothing-owed : (o : Option Pair) → noneOwed o ≡ true → stillOwed o ≡ []
 nothing-owed none e = refl
 nothing-owed (some p) e = absurd (true≢false (sym e))
 
+acts-stay-good : (acts : List Act) (s : Sender) → Good s → Good (afterActs acts s)
+acts-stay-good [] s g = g
+acts-stay-good (queueing c ∷ acts) s g = acts-stay-good acts (pushSender s c .1) (push-good s c g)
+acts-stay-good (sending ∷ acts) s g = acts-stay-good acts (sendSender s .1) (send-good s g)
+
 -- once idle, what was sent is the queue's pairs doubled
 pub sent-once-idle : (acts : List Act) → EndsIdle acts → sentBy acts freshSender ≡ doubled (queuePairs acts freshSender)
 sent-once-idle acts idle =
     let end = view (afterActs acts freshSender) in
-    let none-left = nothing-owed (end .owed) (both-right (eqb (count (end .queue)) 0) (noneOwed (end .owed)) idle) in
+    let is-idle = said-idle (afterActs acts freshSender) (acts-stay-good acts freshSender fresh-good) idle in
+    let none-left = nothing-owed (end .owed) (both-right (eqb (count (end .queue)) 0) (noneOwed (end .owed)) is-idle) in
     sym (append-nil (sentBy acts freshSender))
     ∙ ap (λ (l : List Pair). sentBy acts freshSender ++ l) (sym none-left)
     ∙ sent-is-doubled acts freshSender fresh-good

@@ -1,13 +1,13 @@
 -- What is sent: the queue's pairs in order, each text pair once and each command pair twice in a row, but for a repeat
 -- that is still owed. And every pair of the queue has odd parity.
 -- Assumes nothing.
-use mathlib.Core.Bool.{Bool, true, false, cond, _&&_}
+use mathlib.Core.Bool.{Bool, true, false, cond}
 use mathlib.Core.List.{List, [], _∷_, _++_, append-assoc, append-nil}
 use mathlib.Core.Option.{Option, none, some}
-use mathlib.Core.Path.{_≡_, refl, ap, ap₂, sym, subst, _∙_}
+use mathlib.Core.Path.{_≡_, refl, ap, sym, subst, _∙_}
 use Rattle.code.proofs.Written.{SentPair}
-use Rattle.code.specs.Outcome.{Outcome, answer, refused}
-use Rattle.code.specs.declared.code.Code.{Code}
+use Rattle.code.specs.Outcome.{Outcome, answer}
+use Rattle.code.specs.Read.{isCommandPair, isOddPair}
 use Rattle.code.specs.declared.pair.Pair.{Pair}
 use Rattle.queue.proofs.Pairs.{popped-is-sent}
 use Rattle.queue.proofs.Refines.{good-fits}
@@ -16,12 +16,12 @@ use Rattle.queue.specs.Ring.{popRing}
 use Rattle.queue.specs.Ring as queue
 use Rattle.queue.specs.declared.ring.Queue.{Queue}
 use Rattle.sender.proofs.Refines.{push-good, pushed-as, queue-formed, send-good, send-refines}
-use Rattle.sender.specs.Agreement.{Act, queueing, sending, acted, afterActs, given, isOddPair, popped, poppedIn, queuePairs, sentBy, sentIn}
+use Rattle.sender.specs.Agreement.{Act, queueing, sending, afterActs, given, popped, queuePairs, sentBy}
 use Rattle.sender.specs.Doubled.{doubled, stillOwed}
 use Rattle.sender.specs.Good.{Good}
 use Rattle.sender.specs.OneByOne.{AllOdd}
 use Rattle.sender.specs.Sender.{owedIn, pushSender, sendSender, view}
-use Rattle.sender.specs.Sending.{Sending, isCommandPair, repeatOf, send, sendOwed}
+use Rattle.sender.specs.Sending.{Sending, repeatOf, send, sendOwed}
 use Rattle.sender.specs.declared.sender.Owed.{Owed}
 use Rattle.sender.specs.declared.sender.Sender.{Sender}
 

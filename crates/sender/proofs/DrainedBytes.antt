@@ -3,18 +3,21 @@
 -- Assumes nothing.
 use mathlib.Core.Bool.{Bool, true, false, cond}
 use mathlib.Core.List.{List, [], _∷_, _++_}
+use mathlib.Core.Logic.{_⊎_, inl, inr, ⊎-elim}
 use mathlib.Core.Path.{_≡_, refl, ap, ap₂, sym, subst, _∙_}
 use Prim.Native.Nat.{ℕ, zero, suc, _+_, _*_, _-_, _≤_, _<_}
 use native.Mathlib.Omega.{arith}
 use lib.ListN.{List·getD-append, drop, getD, length, length-append, length-drop, replicate, take}
 use lib.Seq.{getD-append-add, getD-drop, getD-take, length-take-le}
-use Rattle.code.specs.Outcome.{Outcome, answer, refused}
+use Rattle.code.specs.Outcome.{Outcome}
 use Rattle.code.specs.declared.pair.Pair.{Pair}
+use Rattle.sender.proofs.Lent.{drained-as}
 use Rattle.sender.proofs.Refines.{send-good, send-refines}
-use Rattle.sender.specs.Agreement.{Act, queueing, sending, afterActs, given, sentBy}
-use Rattle.sender.specs.Drain.{bytesOf, drainedPairs, filled, sendTimes}
+use Rattle.sender.specs.Agreement.{Act, sending, afterActs, given, sentBy}
+use Rattle.sender.specs.Drain.{bytesOf, drainSender, drained, drainedPairs, filled, sendTimes}
 use Rattle.sender.specs.Good.{Good}
-use Rattle.sender.specs.Sender.{sendSender, view}
+use Rattle.sender.specs.Sender.{sendSender, view, wellFormed}
+use Rattle.sender.specs.SendsLeft.{afterSends}
 use Rattle.sender.specs.Sending.{Sending, isIdle, send}
 use Rattle.sender.specs.declared.sender.Sender.{Sender}
 
@@ -74,14 +77,14 @@ module _ (out : List ℕ) (start : ℕ) (ps : List Pair) (inside : start ≤ len
   front : length (take start out) ≡ start
   front = length-take-le start out inside
 
-  pub same-length : length written ≡ length out
+  same-length : length written ≡ length out
   same-length =
       let rest = length-drop (length (bytesOf ps)) (drop start out) in
       let whole = length-append (take start out) (filled (drop start out) ps) in
       let part = length-append (bytesOf ps) (drop (length (bytesOf ps)) (drop start out)) in
       omega (arith, whole, part, rest, front, length-drop start out, inside, room)
 
-  pub same-in-front : (i d : ℕ) → i < start → getD written i d ≡ getD out i d
+  same-in-front : (i d : ℕ) → i < start → getD written i d ≡ getD out i d
   same-in-front i d less =
       List·getD-append (take start out) (filled (drop start out) ps) d i (omega (arith, front, less))
       ∙ getD-take start out i d less
@@ -94,7 +97,51 @@ module _ (out : List ℕ) (start : ℕ) (ps : List Pair) (inside : start ≤ len
       ∙ getD-drop (length (bytesOf ps)) (drop start out) k d
       ∙ getD-drop start out (length (bytesOf ps) + k) d
 
-  pub same-behind : (i d : ℕ) → start + length (bytesOf ps) ≤ i → getD written i d ≡ getD out i d
+  same-behind : (i d : ℕ) → start + length (bytesOf ps) ≤ i → getD written i d ≡ getD out i d
   same-behind i d past =
       let at : start + (length (bytesOf ps) + (i - start - length (bytesOf ps))) ≡ i = omega (arith, past) in
       subst (λ (n : ℕ). getD written n d ≡ getD out n d) at (behind-by (i - start - length (bytesOf ps)) d)
+
+-- where it stopped: at the limit, with less than a pair of room, or idle
+abbrev pub Stopped : ℕ → ℕ → Sending → List Pair → Type 0
+Stopped limit room v ps =
+    (length ps ≡ limit) ⊎ ((room - length (bytesOf ps) < 2) ⊎ (isIdle (afterSends (length ps) v) ≡ true))
+
+pub why-it-stopped : (limit room : ℕ) (v : Sending) → Stopped limit room v (drainedPairs limit room v)
+why-it-stopped zero room v = inl refl
+why-it-stopped (suc limit) zero v = inr (inl (omega arith))
+why-it-stopped (suc limit) (suc zero) v = inr (inl (omega arith))
+why-it-stopped (suc limit) (suc (suc room)) v =
+    unless-idle (isIdle v) refl (drainedPairs limit room (send v .next)) (why-it-stopped limit room (send v .next))
+  where
+    unless-idle : (t : Bool) → isIdle v ≡ t → (ps : List Pair) → Stopped limit room (send v .next) ps → Stopped (suc limit) (suc (suc room)) v (cond t [] (send v .pair ∷ ps))
+    unless-idle true e ps later = inr (inr e)
+    unless-idle false e ps later =
+        ⊎-elim (λ (h : length ps ≡ limit). inl (ap suc h))
+        (λ (h : (room - length (bytesOf ps) < 2) ⊎ (isIdle (afterSends (length ps) (send v .next)) ≡ true)).
+        ⊎-elim (λ (x : room - length (bytesOf ps) < 2). inr (inl (omega (arith, x))))
+        (λ (x : isIdle (afterSends (length ps) (send v .next)) ≡ true). inr (inr x)) h)
+        later
+
+-- and all of it of the drain itself, from a well-formed state and with the start inside the output
+module _ (s : Sender) (out : List ℕ) (start limit : ℕ) (formed : wellFormed s ≡ true) (inside : start ≤ length out) where
+  abbrev pub itsPairs : List Pair
+  itsPairs = drainedPairs limit (length (drop start out)) (view s)
+
+  pub drains-as : drainSender s out start limit ≡ drained s out start itsPairs
+  drains-as = drained-as s out start limit formed inside
+
+  room : length (bytesOf itsPairs) ≤ length (drop start out)
+  room = within-the-room limit (length (drop start out)) (view s)
+
+  pub output-as-long : length (drainSender s out start limit .2) ≡ length out
+  output-as-long = ap (λ (r : Outcome ℕ × Sender × List ℕ). length (r .2)) drains-as ∙ same-length out start itsPairs inside room
+
+  pub same-before-the-start : (i d : ℕ) → i < start → getD (drainSender s out start limit .2) i d ≡ getD out i d
+  same-before-the-start i d less =
+      ap (λ (r : Outcome ℕ × Sender × List ℕ). getD (r .2) i d) drains-as ∙ same-in-front out start itsPairs inside room i d less
+
+  pub same-behind-the-last-pair : (i d : ℕ) → start + 2 * length itsPairs ≤ i → getD (drainSender s out start limit .2) i d ≡ getD out i d
+  same-behind-the-last-pair i d past =
+      ap (λ (r : Outcome ℕ × Sender × List ℕ). getD (r .2) i d) drains-as
+      ∙ same-behind out start itsPairs inside room i d (omega (arith, past, two-a-pair itsPairs))

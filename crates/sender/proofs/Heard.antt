@@ -9,7 +9,7 @@ use mathlib.Core.Path.{_≡_, refl, ap, ap₂, sym, subst, _∙_}
 use Rattle.code.proofs.Written.{read-as-command}
 use Rattle.code.specs.Outcome.{Outcome, answer, refused}
 use Rattle.code.specs.Parity.{isOdd, stripped}
-use Rattle.code.specs.Read.{commandOf, single}
+use Rattle.code.specs.Read.{commandOf, isCommandPair, isOddPair, single}
 use Rattle.code.specs.declared.code.Code.the-variants as code
 use Rattle.code.specs.declared.control.ControlCode.{ControlCode}
 use Rattle.code.specs.declared.pair.Pair.{Pair}
@@ -25,11 +25,9 @@ use Rattle.receiver.specs.declared.state.LastChannel.{LastChannel}
 use Rattle.receiver.specs.declared.state.LastPair.{LastPair}
 use Rattle.receiver.specs.declared.state.LastPair.the-variants as last
 use Rattle.sender.proofs.OneByOne.{both, same-is-equal, same-itself}
-use Rattle.sender.specs.Agreement.{isOddPair}
 use Rattle.sender.specs.Doubled.{doubled}
 use Rattle.sender.specs.OneByOne.{AllOdd, OneByOne, goesOn, wasSpoiled}
 use Rattle.sender.specs.OneByOne as one
-use Rattle.sender.specs.Sending.{isCommandPair}
 
 -- two states with the same channel and field, whatever their last pairs
 pub record Same (s t : Cea608State) : Type 0 where

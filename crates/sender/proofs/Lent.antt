@@ -25,7 +25,7 @@ pub start-past-end : (s : Sender) (out : List ℕ) (start limit : ℕ) → wellF
 unfolding drainSender
 start-past-end s out start limit e past = rw (e, lt-ltb (length out) start past) refl
 
-drained-as : (s : Sender) (out : List ℕ) (start limit : ℕ) → wellFormed s ≡ true → start ≤ length out → drainSender s out start limit ≡ drained s out start (drainedPairs limit (length (drop start out)) (view s))
+pub drained-as : (s : Sender) (out : List ℕ) (start limit : ℕ) → wellFormed s ≡ true → start ≤ length out → drainSender s out start limit ≡ drained s out start (drainedPairs limit (length (drop start out)) (view s))
 unfolding drainSender
 drained-as s out start limit e inside = rw (e, le-ltb (length out) start inside) refl
 

@@ -2,6 +2,7 @@ pub mod Agreement
 pub mod AnyPadding
 pub mod Doubled
 pub mod DrainedBytes
+pub mod ExactlySoMany
 pub mod Filling
 pub mod Heard
 pub mod Lent
@@ -15,3 +16,4 @@ pub mod OwedFits
 pub mod Refines
 pub mod Refused
 pub mod SendsLeft
+pub mod TriedByHand

@@ -3,9 +3,11 @@
 -- spoiled the window does not scroll; with the text spoiled its words are lost. antt computes each from the definitions.
 -- Assumes nothing.
 use mathlib.Core.Bool.{false}
-use mathlib.Core.List.{List, [], _∷_}
-use mathlib.Core.Path.{_≡_, refl}
+use mathlib.Core.List.{List, [], _∷_, map}
+use mathlib.Core.Path.{_≡_, refl, ap, _∙_}
+use native.Mathlib.Omega.{arith}
 use lib.Count.{ones, onesIn}
+use lib.ListN.{length}
 use Rattle.code.specs.Channel.{channelOne, fieldOne}
 use Rattle.code.specs.Characters.{standard}
 use Rattle.code.specs.Letter.{letterAt}
@@ -28,9 +30,10 @@ use Rattle.queue.specs.Ring as ring
 use Rattle.receiver.specs.Reading.{answers, events, readOnce}
 use Rattle.receiver.specs.Receiver.{fresh}
 use Rattle.sender.proofs.OneByOne.{one-by-one-is-a-line}
-use Rattle.sender.specs.Agreement.{Act, queueing, sending, EndsIdle, Line, queuePairs, sentBy}
+use Rattle.sender.specs.Agreement.{Act, queueing, sending, Agreement, Carried, EndsIdle, Line, queuePairs, refusal, sentBy}
+use Rattle.sender.specs.Agreement as agreed
 use Rattle.sender.specs.OneByOne as one
-use Rattle.sender.specs.Sender.{freshSender, pushSender, sendSender, wellFormed}
+use Rattle.sender.specs.Sender.{freshSender, idleSender, pushSender, sendSender, wellFormed}
 use Rattle.sender.specs.Sending.{send}
 
 abbrev command : Command → Code
@@ -63,7 +66,7 @@ abbrev line : List Pair
 line = rollUp ∷ rollUp ∷ return ∷ return ∷ hi ∷ []
 
 pub what-is-sent : (sentBy programme freshSender ≡ line) × (queuePairs programme freshSender ≡ rollUp ∷ return ∷ hi ∷ []) × EndsIdle programme
-unfolding ones onesIn writeCode inDomain admit pairOf pop pushRing popRing ring.wellFormed wellFormed pushSender send sendSender
+unfolding ones onesIn writeCode inDomain admit pairOf pop pushRing popRing ring.wellFormed wellFormed pushSender send sendSender idleSender
 what-is-sent = (refl, refl, refl)
 
 pub what-is-meant : events (readOnce fresh (rollUp ∷ return ∷ hi ∷ [])) ≡ modeEvent ∷ returnEvent ∷ hiEvent ∷ []
@@ -84,17 +87,55 @@ pub one-hit-each-is-heard : events (answers fresh oneHitEach) ≡ modeEvent ∷ 
 unfolding readPair ones onesIn standard
 one-hit-each-is-heard = refl
 
--- both copies of the carriage return spoiled: the window does not scroll
-pub two-hits-lose-a-command : events (answers fresh (rollUp ∷ rollUp ∷ pair 0x14 0xAD ∷ pair 0x94 0x2D ∷ hi ∷ [])) ≡ modeEvent ∷ hiEvent ∷ []
+pub one-hit-each-is-refused : map refusal (answers fresh oneHitEach) ≡ 1 ∷ 0 ∷ 0 ∷ 1 ∷ 0 ∷ []
+unfolding readPair ones onesIn standard
+one-hit-each-is-refused = refl
+
+-- both copies of the carriage return spoiled: each pair is as the line may spoil it, but for the stretch, and the window
+-- does not scroll
+abbrev twoHits : List Pair
+twoHits = rollUp ∷ rollUp ∷ pair 0x14 0xAD ∷ pair 0x94 0x2D ∷ hi ∷ []
+
+pub two-hits-are-carried : Carried line twoHits
+unfolding ones onesIn
+two-hits-are-carried =
+    agreed.arrives (agreed.arrives (agreed.is-spoiled refl refl (agreed.is-spoiled refl refl (agreed.arrives agreed.ends))))
+
+pub two-hits-lose-a-command : events (answers fresh twoHits) ≡ modeEvent ∷ hiEvent ∷ []
 unfolding readPair ones onesIn standard
 two-hits-lose-a-command = refl
 
--- and so with two of the four copies where it was queued twice: it scrolls once
-pub two-hits-of-four-lose-a-command : events (answers fresh (return ∷ pair 0x14 0xAD ∷ pair 0x14 0xAD ∷ return ∷ [])) ≡ returnEvent ∷ []
-unfolding readPair ones onesIn
-two-hits-of-four-lose-a-command = refl
+-- the text spoiled, each stretch spared: its words are lost
+abbrev textHit : List Pair
+textHit = rollUp ∷ rollUp ∷ return ∷ return ∷ pair 0x48 0xE9 ∷ []
 
--- the text spoiled: its words are lost
-pub a-hit-on-text-loses-words : events (answers fresh (rollUp ∷ rollUp ∷ return ∷ return ∷ pair 0x48 0xE9 ∷ [])) ≡ modeEvent ∷ returnEvent ∷ []
+pub a-hit-on-text-loses-words : events (answers fresh textHit) ≡ modeEvent ∷ returnEvent ∷ []
 unfolding readPair ones onesIn
 a-hit-on-text-loses-words = refl
+
+-- so the agreement fails of both: what is heard has two events, and what was meant three
+fails : (arrived : List Pair) → length (events (answers fresh arrived)) ≡ 2 → Agreement programme arrived → ⊥
+fails arrived two agrees =
+    let meant = agrees .same-events ∙ ap (λ (ps : List Pair). events (readOnce fresh ps)) (what-is-sent .1) ∙ what-is-meant in
+    omega (arith, two, ap length meant)
+
+pub no-agreement-over-two-hits : Agreement programme twoHits → ⊥
+no-agreement-over-two-hits agrees = fails twoHits (ap length two-hits-lose-a-command) agrees
+
+pub no-agreement-over-a-text-hit : Agreement programme textHit → ⊥
+no-agreement-over-a-text-hit agrees = fails textHit (ap length a-hit-on-text-loses-words) agrees
+
+-- a carriage return queued twice is a stretch of four, and two hits among them lose one of the two scrolls
+abbrev twoReturns : List Act
+twoReturns =
+    queueing (command CarriageReturn) ∷ queueing (command CarriageReturn) ∷ sending ∷ sending ∷ sending ∷ sending ∷ []
+
+pub a-stretch-of-four : (sentBy twoReturns freshSender ≡ return ∷ return ∷ return ∷ return ∷ []) × (queuePairs twoReturns freshSender ≡ return ∷ return ∷ [])
+unfolding ones onesIn writeCode inDomain admit pairOf pop pushRing popRing ring.wellFormed wellFormed pushSender send sendSender
+a-stretch-of-four = (refl, refl)
+
+pub two-hits-of-four-lose-a-command :
+    (events (readOnce fresh (return ∷ return ∷ [])) ≡ returnEvent ∷ returnEvent ∷ [])
+    × (events (answers fresh (return ∷ pair 0x14 0xAD ∷ pair 0x14 0xAD ∷ return ∷ [])) ≡ returnEvent ∷ [])
+unfolding readPair ones onesIn
+two-hits-of-four-lose-a-command = (refl, refl)

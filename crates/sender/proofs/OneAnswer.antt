@@ -77,10 +77,11 @@ drain-answer-found drain-answer.IllFormed = refl
 pub drain-answer-told : Told drainAnswerOutcome
 drain-answer-told a b e = sym (drain-answer-found a) ∙ ap drainAnswerOf e ∙ drain-answer-found b
 
-pub drain-told : (r s : Drained) (out other : List ℕ) → drainOutcome r out ≡ drainOutcome s other → (r ≡ s) × (out ≡ other)
-drain-told r s out other e = (
-  ap₂ {C = Drained} (λ (a : DrainAnswer) (x : Sender). record { answer = a; sender = x })
-      (drain-answer-told (r .answer) (s .answer) (ap (λ (w : Outcome ℕ × Sender × List ℕ). w .0) e))
-      (ap (λ (w : Outcome ℕ × Sender × List ℕ). w .1) e),
-  ap (λ (w : Outcome ℕ × Sender × List ℕ). w .2) e,
-)
+-- the drain's outcome is of its answer and of the output beside it
+pub drain-told : Told (λ (r : Drained × List ℕ). drainOutcome (r .0) (r .1))
+drain-told r s e =
+    ap₂ {C = Drained × List ℕ} (λ (x : Drained) (out : List ℕ). (x, out))
+    (ap₂ {C = Drained} (λ (a : DrainAnswer) (x : Sender). record { answer = a; sender = x })
+    (drain-answer-told (r .0 .answer) (s .0 .answer) (ap (λ (w : Outcome ℕ × Sender × List ℕ). w .0) e))
+    (ap (λ (w : Outcome ℕ × Sender × List ℕ). w .1) e))
+    (ap (λ (w : Outcome ℕ × Sender × List ℕ). w .2) e)

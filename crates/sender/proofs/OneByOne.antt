@@ -10,13 +10,13 @@ use native.Mathlib.Omega.{arith}
 use borrow.Author.Tests.{eq-eqb, eqb-true}
 use lib.Dec.{eqb}
 use lib.ListN.{drop, getD, length, replicate, take}
+use Rattle.code.specs.Read.{isOddPair}
 use Rattle.code.specs.Write.{pair}
 use Rattle.code.specs.declared.pair.Pair.{Pair}
-use Rattle.sender.specs.Agreement.{Carried, Line, OneHit, hits, isOddPair, samePair, spoiledPlaces}
+use Rattle.sender.specs.Agreement.{Carried, Line, OneHit, hits, samePair, spoiledPlaces}
 use Rattle.sender.specs.Agreement as line
 use Rattle.sender.specs.OneByOne.{AllOdd, OneByOne, goesOn, wasSpoiled}
 use Rattle.sender.specs.OneByOne as one
-use Rattle.sender.specs.Sending.{isCommandPair}
 
 pub both : (t u : Bool) → (t && u) ≡ true → (t ≡ true) × (u ≡ true)
 both true true e = (refl, refl)

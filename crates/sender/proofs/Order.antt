@@ -3,24 +3,24 @@
 -- the held one, then those waiting. A drain is so many sends.
 -- Assumes nothing.
 use mathlib.Core.Bool.{Bool, true, false, cond}
-use mathlib.Core.List.{List, [], _∷_, _++_, append-assoc, append-nil}
+use mathlib.Core.List.{List, [], _∷_, _++_, append-assoc}
 use mathlib.Core.Option.{Option, none, some}
 use mathlib.Core.Path.{_≡_, refl, ap, ap₂, sym, subst, _∙_}
 use Prim.Native.Nat.{ℕ, zero, suc, _≤_}
 use lib.Dec.{ltb}
-use lib.ListN.{drop, length}
-use Rattle.code.specs.Outcome.{Outcome, answer, refused}
+use lib.ListN.{length}
+use Rattle.code.specs.Outcome.{Outcome}
 use Rattle.code.specs.declared.code.Code.{Code}
 use Rattle.code.specs.declared.pair.Pair.{Pair}
 use Rattle.queue.proofs.Order as ring
 use Rattle.queue.proofs.WellFormed.{formed}
 use Rattle.queue.specs.Calls.{letIn}
-use Rattle.queue.specs.Queue.{Queued, inside, pop}
+use Rattle.queue.specs.Queue.{Queued, inside}
 use Rattle.sender.proofs.Refines.{fresh-good, push-good, push-refines, queue-formed, send-good, send-refines}
 use Rattle.sender.specs.Calls.{Call, pushing, sending, draining, counting, asking, resetting, History, after, afterAll, begun, sendsIn, takenBy, takenIn}
-use Rattle.sender.specs.Drain.{drainSender, drainedPairs, sendTimes}
+use Rattle.sender.specs.Drain.{drainSender, sendTimes}
 use Rattle.sender.specs.Good.{Good}
-use Rattle.sender.specs.Sender.{countSender, freshSender, idleSender, pushSender, sendSender, view, wellFormed}
+use Rattle.sender.specs.Sender.{countSender, freshSender, idleSender, sendSender, view, wellFormed}
 use Rattle.sender.specs.Sending.{Sending, push, send, sendOwed}
 use Rattle.sender.specs.declared.sender.Sender.{Sender}
 

@@ -7,8 +7,11 @@ use mathlib.Core.Option.{Option, none, some}
 use mathlib.Core.Path.{_≡_, refl, ap, ap₂, sym, subst, _∙_}
 use native.Mathlib.Omega.{arith}
 use lib.ListN.{length}
+use Prim.Native.Nat.{ℕ}
+use Rattle.code.proofs.OneAnswer.{same}
 use Rattle.code.proofs.Written.{SentPair}
 use Rattle.code.specs.Outcome.{Outcome, answer, refused}
+use Rattle.code.specs.Read.{isCommandPair}
 use Rattle.code.specs.declared.code.Code.{Code}
 use Rattle.code.specs.declared.pair.Pair.{Pair}
 use Rattle.queue.proofs.Fit.{pop-fits}
@@ -23,7 +26,7 @@ use Rattle.queue.specs.Ring as queue
 use Rattle.queue.specs.declared.ring.Queue.{Queue}
 use Rattle.sender.specs.Good.{Good}
 use Rattle.sender.specs.Sender.{countSender, freshSender, idleSender, owedAs, owedFits, owedIn, pushSender, queueAfter, sendSender, sender, view, wellFormed}
-use Rattle.sender.specs.Sending.{isCommandPair, push, repeatOf, send, sendOwed, sending}
+use Rattle.sender.specs.Sending.{isIdle, push, repeatOf, send, sendOwed, sending}
 use Rattle.sender.specs.declared.sender.Owed.{Owed}
 use Rattle.sender.specs.declared.sender.Sender.{Sender}
 
@@ -151,3 +154,22 @@ ill-formed-count s e = rw e refl
 pub ill-formed-idle : (s : Sender) → wellFormed s ≡ false → idleSender s ≡ (refused 12, s)
 unfolding idleSender
 ill-formed-idle s e = rw e refl
+
+-- what a well-formed state says of itself
+pub says-whether-idle : (s : Sender) → wellFormed s ≡ true → idleSender s .0 ≡ answer (isIdle (view s))
+unfolding idleSender
+says-whether-idle s e = rw e refl
+
+pub said-idle : (s : Sender) → Good s → idleSender s .0 ≡ answer true → isIdle (view s) ≡ true
+said-idle s g e = same (sym (says-whether-idle s (g .formed)) ∙ e)
+
+-- a push that is refused, by any number, hands the very same record back
+pushed-same : (s : Sender) (c : Code) (n : ℕ) (t : Bool) → wellFormed s ≡ t → pushSender s c .0 ≡ refused n → pushSender s c .1 ≡ s
+pushed-same s c n false e told = ap (λ (r : Outcome Unit × Sender). r .1) (ill-formed-push s c e)
+pushed-same s c n true e told =
+    let done = pushed-as s c e in
+    let kept = ring.a-refused-push-changes-nothing (s .queue) c n (sym (ap (λ (r : Outcome Unit × Sender). r .0) done) ∙ told) in
+    ap (λ (r : Outcome Unit × Sender). r .1) done ∙ ap (λ (q : Queue). sender q (s .owed)) kept
+
+pub a-refused-push-changes-nothing : (s : Sender) (c : Code) (n : ℕ) → pushSender s c .0 ≡ refused n → pushSender s c .1 ≡ s
+a-refused-push-changes-nothing s c n told = pushed-same s c n (wellFormed s) refl told

@@ -1,11 +1,12 @@
 -- The set refuses what the line spoiled, by number 1, and nothing else.
 -- Assumes nothing.
-use mathlib.Core.Bool.{Bool, true, false, cond, true≢false}
+use mathlib.Core.Bool.{Bool, true, false, cond}
 use mathlib.Core.List.{List, [], _∷_, map}
 use mathlib.Core.Option.{Option}
 use mathlib.Core.Path.{_≡_, refl, ap, ap₂, sym, _∙_}
 use Prim.Native.Nat.{ℕ}
 use Rattle.code.specs.Outcome.{Outcome, answer, refused}
+use Rattle.code.specs.Read.{isOddPair}
 use Rattle.code.specs.declared.pair.Pair.{Pair}
 use Rattle.event.specs.declared.event.Cea608.{Cea608}
 use Rattle.receiver.proofs.Step.{even-is-refused-1, odd-is-not-refused}
@@ -13,7 +14,7 @@ use Rattle.receiver.specs.Reading.{answers}
 use Rattle.receiver.specs.Receiver.{step}
 use Rattle.receiver.specs.declared.state.Cea608State.{Cea608State}
 use Rattle.sender.proofs.OneByOne.{same-itself, spoiled-is-another}
-use Rattle.sender.specs.Agreement.{Carried, isOddPair, refusal, samePair, spoiledPlaces}
+use Rattle.sender.specs.Agreement.{Carried, refusal, samePair, spoiledPlaces}
 use Rattle.sender.specs.Agreement as line
 use Rattle.sender.specs.OneByOne.{AllOdd}
 

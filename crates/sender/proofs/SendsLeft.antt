@@ -1,42 +1,28 @@
--- A sender with n codes is idle after at most 3 n + 1 sends: each send of one that is not idle leaves fewer to come. And
--- some need exactly as many: n codes that each want a space in front, behind a command whose repeat is owed.
+-- A sender with n codes is idle after at most 3 n + 1 sends: each send of one that is not idle leaves fewer to come.
 -- Assumes nothing.
-use mathlib.Core.Bool.{Bool, true, false, cond, _&&_, true≢false}
+use mathlib.Core.Bool.{Bool, true, false, cond, true≢false}
 use mathlib.Core.List.{List, [], _∷_}
 use mathlib.Core.Option.{Option, none, some}
-use mathlib.Core.Path.{_≡_, refl, ap, sym, subst, _∙_}
+use mathlib.Core.Path.{_≡_, refl, ap, sym, _∙_}
 use Prim.Native.Nat.{ℕ, zero, suc, _+_, _*_, _≤_, _<_}
 use native.Mathlib.Omega.{arith}
 use borrow.Author.Tests.{ne-eqb}
-use lib.ListN.{length, replicate}
+use lib.ListN.{length}
 use Rattle.code.specs.Code.{needsBackspace}
+use Rattle.code.specs.Outcome.{answer}
 use Rattle.code.specs.Write.{pair}
 use Rattle.code.specs.declared.code.Code.{Code}
 use Rattle.code.specs.declared.pair.Pair.{Pair}
-use Rattle.queue.proofs.WellFormed.{one-held}
-use Rattle.queue.specs.Queue.{Pop, Queued, byteOf, count, heldCodes, isSingle, pairOf, pop, popCommand, popHeld, popSingle, popTwo, popWaiting, queued}
-use lib.Count.{ones, onesIn}
-use Rattle.code.specs.Channel.{channelOne}
-use Rattle.code.specs.Outcome.{answer}
-use Rattle.code.specs.Symbol.{symbolAt}
-use Rattle.code.specs.Write.{inDomain, writeCode}
-use Rattle.code.specs.declared.code.Code.the-variants as code
-use Rattle.code.specs.declared.control.CodeField.the-variants.{Absent}
-use Rattle.code.specs.declared.control.Control.the-variants as control
-use Rattle.queue.specs.Queue.{admit}
-use Rattle.queue.specs.Ring.{popRing, pushRing}
-use Rattle.queue.specs.Ring as ring
-use Rattle.sender.specs.Agreement.{queueing, afterActs}
-use Rattle.sender.specs.Agreement as act
+use Rattle.queue.specs.Queue.{Pop, Queued, byteOf, count, isSingle, pairOf, pop, popCommand, popHeld, popSingle, popTwo, popWaiting, queued}
 use Rattle.sender.proofs.Order.{sends-stay-good}
-use Rattle.sender.proofs.Refines.{send-good, send-refines}
+use Rattle.sender.proofs.Refines.{says-whether-idle, send-good, send-refines}
 use Rattle.sender.specs.Doubled.{stillOwed}
 use Rattle.sender.specs.Drain.{sendTimes}
 use Rattle.sender.specs.Good.{Good}
-use Rattle.sender.specs.Sender.{freshSender, idleSender, pushSender, sendSender, view, wellFormed}
+use Rattle.sender.specs.Sender.{idleSender, sendSender, view}
+use Rattle.sender.specs.SendsLeft.{afterSends, sendsLeft}
+use Rattle.sender.specs.Sending.{Sending, isIdle, repeatOf, send, sendOwed, sendPopped, sending}
 use Rattle.sender.specs.declared.sender.Sender.{Sender}
-use Rattle.sender.specs.SendsLeft.{afterSends, fullOf, sendsLeft}
-use Rattle.sender.specs.Sending.{Sending, isCommandPair, isIdle, repeatOf, send, sendOwed, sendPopped, sending}
 
 one-owed : (o : Option Pair) → length (stillOwed o) ≤ 1
 one-owed none = omega arith
@@ -78,7 +64,7 @@ unfolding send
 send-makes-progress s busy = sent-fewer (s .owed) (s .queue) busy
 
 -- with a code inside it is not idle
-with-codes-busy : (s : Sending) → 0 < count (s .queue) → isIdle s ≡ false
+pub with-codes-busy : (s : Sending) → 0 < count (s .queue) → isIdle s ≡ false
 with-codes-busy s more = rw (ne-eqb (count (s .queue)) 0 (λ (e : count (s .queue) ≡ 0). omega (arith, e, more))) refl
 
 -- an idle one stays so: it sends padding
@@ -116,59 +102,14 @@ idle-within (suc n) s false e less =
 pub idle-after : (s : Sending) → isIdle (afterSends (3 * count (s .queue) + 1) s) ≡ true
 idle-after s = idle-within (3 * count (s .queue) + 1) s (isIdle s) refl (omega (arith, one-owed (s .owed)))
 
--- and there is no better bound: n codes that need a backspace, behind a command whose repeat is owed, take all of them
-module _ (c : Code) (two : isSingle c ≡ false) (wants : needsBackspace c ≡ true) (command : isCommandPair (pairOf c) ≡ true) where
-  held-then : (n : ℕ) → send (sending (queued (replicate n c) (some c)) none) .next ≡ fullOf c n
-  unfolding send pop
-  held-then n = rw command refl
-
-  waiting-then : (n : ℕ) → send (sending (queued (replicate (suc n) c) none) none) .next ≡ sending (queued (replicate n c) (some c)) none
-  unfolding send pop
-  waiting-then n = rw (two, wants) refl
-
-  owed-then : (n : ℕ) → send (fullOf c n) .next ≡ sending (queued (replicate n c) none) none
-  unfolding send
-  owed-then n = refl
-
-  pub needs-them-all : (n k : ℕ) → k < 3 * n + 1 → isIdle (afterSends k (fullOf c n)) ≡ false
-  needs-them-all zero zero less = refl
-  needs-them-all zero (suc k) less = absurd (omega arith)
-  needs-them-all (suc n) zero less = with-codes-busy (fullOf c (suc n)) (omega arith)
-  needs-them-all (suc n) (suc zero) less =
-      ap isIdle (owed-then (suc n)) ∙ with-codes-busy (sending (queued (replicate (suc n) c) none) none) (omega arith)
-  needs-them-all (suc n) (suc (suc zero)) less =
-      ap (λ (s : Sending). isIdle (send s .next)) (owed-then (suc n))
-      ∙ ap isIdle (waiting-then n)
-      ∙ with-codes-busy (sending (queued (replicate n c) (some c)) none) (omega arith)
-  needs-them-all (suc n) (suc (suc (suc k))) less =
-      ap (λ (s : Sending). isIdle (afterSends k (send (send s .next) .next))) (owed-then (suc n))
-      ∙ ap (λ (s : Sending). isIdle (afterSends k (send s .next))) (waiting-then n)
-      ∙ ap (λ (s : Sending). isIdle (afterSends k s)) (held-then n)
-      ∙ needs-them-all n k (omega arith)
-
 -- the same of the code's state: after 3 n + 1 sends it says that it is idle
-sends-refine : (n : ℕ) (s : Sender) → Good s → view (sendTimes n s) ≡ afterSends n (view s)
+pub sends-refine : (n : ℕ) (s : Sender) → Good s → view (sendTimes n s) ≡ afterSends n (view s)
 sends-refine zero s g = refl
 sends-refine (suc n) s g =
     sends-refine n (sendSender s .1) (send-good s g) ∙ ap (afterSends n) (send-refines s g .1)
 
-answers-idle : (s : Sender) (t : Bool) → wellFormed s ≡ true → isIdle (view s) ≡ t → idleSender s .0 ≡ answer t
-unfolding idleSender
-answers-idle s t formed e = rw (formed, e) refl
-
 pub says-idle : (s : Sender) → Good s → idleSender (sendTimes (3 * count (view s .queue) + 1) s) .0 ≡ answer true
 says-idle s g =
     let n = 3 * count (view s .queue) + 1 in
-    answers-idle (sendTimes n s) true (sends-stay-good n s g .formed) (ap isIdle (sends-refine n s g) ∙ idle-after (view s))
-
--- so it is with Á, 12 20, which the code reaches: pushed, sent once as 92 20, and pushed again
-abbrev A-acute : Code
-A-acute = code.Control (record { field = Absent; channel = channelOne; control = control.Symbol (symbolAt 16) })
-
-pub A-acute-needs-them-all : (n k : ℕ) → k < 3 * n + 1 → isIdle (afterSends k (fullOf A-acute n)) ≡ false
-unfolding ones onesIn writeCode pairOf
-A-acute-needs-them-all n k less = needs-them-all A-acute refl refl refl n k less
-
-pub such-a-state-is-reached : view (afterActs (queueing A-acute ∷ act.sending ∷ act.sending ∷ queueing A-acute ∷ []) freshSender) ≡ fullOf A-acute 1
-unfolding ones onesIn writeCode inDomain admit pairOf pop pushRing popRing ring.wellFormed wellFormed pushSender send sendSender
-such-a-state-is-reached = refl
+    says-whether-idle (sendTimes n s) (sends-stay-good n s g .formed)
+    ∙ ap answer (ap isIdle (sends-refine n s g) ∙ idle-after (view s))

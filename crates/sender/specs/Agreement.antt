@@ -8,7 +8,7 @@ use mathlib.Core.Path.{_≡_}
 use lib.Dec.{eqb}
 use lib.ListN.{drop, length, replicate, take}
 use Rattle.code.specs.Outcome.{Outcome, answer, refused}
-use Rattle.code.specs.Parity.{isOdd}
+use Rattle.code.specs.Read.{isCommandPair, isOddPair}
 use Rattle.code.specs.declared.code.Code.{Code}
 use Rattle.code.specs.declared.pair.Pair.{Pair}
 use Rattle.event.specs.declared.event.Cea608.{Cea608}
@@ -16,8 +16,7 @@ use Rattle.queue.specs.Ring.{popRing}
 use Rattle.queue.specs.declared.ring.Queue.{Queue}
 use Rattle.receiver.specs.Reading.{after, afterOnce, answers, events, readOnce}
 use Rattle.receiver.specs.Receiver.{fresh}
-use Rattle.sender.specs.Sender.{freshSender, owedIn, pushSender, sendSender, view}
-use Rattle.sender.specs.Sending.{isCommandPair, isIdle}
+use Rattle.sender.specs.Sender.{freshSender, idleSender, owedIn, pushSender, sendSender}
 use Rattle.sender.specs.declared.sender.Sender.{Sender}
 
 -- "Start with a fresh sender and a fresh receiver, never reset. Queue and send in any order, until nothing is queued and
@@ -35,7 +34,7 @@ afterActs [] s = s
 afterActs (a ∷ acts) s = afterActs acts (acted a s)
 
 abbrev pub EndsIdle : List Act → Type 0
-EndsIdle acts = isIdle (view (afterActs acts freshSender)) ≡ true
+EndsIdle acts = idleSender (afterActs acts freshSender) .0 ≡ answer true
 
 -- the pairs that go onto the line
 abbrev pub given : Outcome Pair → List Pair
@@ -65,9 +64,6 @@ queuePairs (a ∷ acts) s = poppedIn a s ++ queuePairs acts (acted a s)
 
 -- "The line may spoil pairs so that parity shows it: no pair that is not a command, and at most one copy in each unbroken
 -- stretch of one command pair." First pair by pair: it arrives as it was sent or, a command, with a byte of even parity.
-abbrev pub isOddPair : Pair → Bool
-isOddPair p = isOdd (p .0) && isOdd (p .1)
-
 pub data Carried : List Pair → List Pair → Type 0 where
   ends : Carried [] []
   arrives : {p : Pair} {ps qs : List Pair} → Carried ps qs → Carried (p ∷ ps) (p ∷ qs)

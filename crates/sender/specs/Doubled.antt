@@ -3,7 +3,7 @@ use mathlib.Core.Bool.{cond}
 use mathlib.Core.List.{List, [], _∷_}
 use mathlib.Core.Option.{Option, none, some}
 use Rattle.code.specs.declared.pair.Pair.{Pair}
-use Rattle.sender.specs.Sending.{isCommandPair}
+use Rattle.code.specs.Read.{isCommandPair}
 
 abbrev pub doubled : List Pair → List Pair
 doubled [] = []

@@ -8,3 +8,5 @@ pub mod Calls
 pub mod Agreement
 pub mod OneByOne
 pub mod Good
+pub mod AnyPadding
+pub mod TriedByHand

@@ -5,8 +5,8 @@ use mathlib.Core.List.{List, [], _∷_}
 use mathlib.Core.Option.{Option, none, some}
 use mathlib.Core.Path.{_≡_}
 use Rattle.code.specs.declared.pair.Pair.{Pair}
-use Rattle.sender.specs.Agreement.{isOddPair, samePair}
-use Rattle.sender.specs.Sending.{isCommandPair}
+use Rattle.code.specs.Read.{isCommandPair, isOddPair}
+use Rattle.sender.specs.Agreement.{samePair}
 
 abbrev pub AllOdd : List Pair → Type 0
 AllOdd [] = Unit

@@ -4,14 +4,14 @@ use Prim.Native.Nat.{ℕ}
 use mathlib.Core.Bool.{Bool, true, false, cond, _&&_}
 use mathlib.Core.Option.{Option, none, some}
 use Rattle.code.specs.Outcome.{Outcome, answer, refused}
-use Rattle.code.specs.Parity.{isOdd}
+use Rattle.code.specs.Read.{isCommandPair, isOddPair}
 use Rattle.code.specs.declared.code.Code.{Code}
 use Rattle.code.specs.declared.pair.Pair.{Pair}
 use Rattle.queue.specs.Queue.{count}
 use Rattle.queue.specs.Ring.{countAnswerOutcome, freshRing, popAnswerOutcome, popRing, pushAnswerOutcome, pushRing}
 use Rattle.queue.specs.Ring as ring
 use Rattle.queue.specs.declared.ring.Queue.{Queue}
-use Rattle.sender.specs.Sending.{Sending, isCommandPair, isIdle, send, sending}
+use Rattle.sender.specs.Sending.{Sending, isIdle, send, sending}
 use Rattle.sender.specs.declared.idle.IdleAnswer.{IdleAnswer}
 use Rattle.sender.specs.declared.idle.IdleAnswer.the-variants as idle-answer
 use Rattle.sender.specs.declared.idle.Idleness.{Idleness}
@@ -39,7 +39,7 @@ sender q o = record { queue = q; owed = o }
 
 -- well formed: a queue that is, and an owed pair absent or a command pair of odd parity
 abbrev pub mayBeOwed : Pair → Bool
-mayBeOwed p = isOdd (p .0) && isOdd (p .1) && isCommandPair p
+mayBeOwed p = isOddPair p && isCommandPair p
 
 abbrev pub owedFits : Option Pair → Bool
 owedFits none = true

@@ -1,16 +1,14 @@
 -- The sender as lists: the queue, and the pair that is owed a second time. Written from 01's section "Queue and sender".
 -- That a command is sent twice in a row is 47 CFR 79.101's; that text is not, and when the repeat goes out, are 01's.
-use Prim.Native.Nat.{ℕ}
 use mathlib.Core.Bool.{Bool, true, false, cond, _&&_}
 use mathlib.Core.List.{List, []}
 use mathlib.Core.Option.{Option, none, some}
 use lib.Dec.{eqb}
 use Rattle.code.specs.Outcome.{Outcome}
-use Rattle.code.specs.Parity.{stripped}
-use Rattle.code.specs.Read.{isCommand}
+use Rattle.code.specs.Read.{isCommandPair}
 use Rattle.code.specs.declared.code.Code.{Code}
 use Rattle.code.specs.declared.pair.Pair.{Pair}
-use Rattle.queue.specs.Queue.{Pop, Queued, count, empty, pop}
+use Rattle.queue.specs.Queue.{Pop, Queued, count, pop}
 use Rattle.queue.specs.Queue as queue
 
 pub record Sending : Type 0 where
@@ -20,14 +18,11 @@ pub record Sending : Type 0 where
 abbrev pub sending : Queued → Option Pair → Sending
 sending q owed = record { queue = q; owed = owed }
 
--- nothing waiting, held or owed
-abbrev pub fresh : Sending
-fresh = sending empty none
-
 abbrev pub noneOwed : Option Pair → Bool
 noneOwed none = true
 noneOwed (some p) = false
 
+-- nothing waiting, held or owed
 abbrev pub isIdle : Sending → Bool
 isIdle s = eqb (count (s .queue)) 0 && noneOwed (s .owed)
 
@@ -41,11 +36,7 @@ pub record Send : Type 0 where
   pub took : List Code
   pub next : Sending
 
--- the stripped first byte is 10 to 1F
-abbrev pub isCommandPair : Pair → Bool
-isCommandPair p = isCommand (stripped (p .0))
-
--- a repeat is owed of a command pair, and of no other
+-- a repeat is owed of a command pair, its stripped first byte 10 to 1F, and of no other
 abbrev pub repeatOf : Pair → Option Pair
 repeatOf p = cond (isCommandPair p) (some p) none
 

@@ -1,7 +1,7 @@
 // Whether a state that was handed in meets the clauses of refusal 12.
 ghost use mathlib.Core.Path.{_≡_};
 ghost use Rattle.sender.specs.Sender.{mayBeOwed, owedFits, owedIn, wellFormed};
-ghost use Rattle.sender.specs.Sending.{isCommandPair};
+ghost use Rattle.code.specs.Read.{isCommandPair};
 use crate::sender::Owed;
 use crate::sender::Sender;
 use code::Pair;

@@ -7,6 +7,7 @@
 //! A set that is chosen at random is made from a seed, which is printed; SEED names another one.
 //! A layer above adds its queries and sets in a module of its own, and the sets to `SETS`.
 
+mod agreement;
 mod code;
 mod code_sets;
 mod event;
@@ -17,6 +18,8 @@ mod queue_sets;
 mod random;
 mod receiver;
 mod sample;
+mod sender;
+mod sender_sets;
 mod transcript;
 mod values;
 
@@ -34,7 +37,7 @@ enum Fill {
     FromSeed(fn(&mut Transcript, &mut Random)),
 }
 
-const SETS: [(&str, Fill); 13] = [
+const SETS: [(&str, Fill); 16] = [
     ("sample", Whole(sample::sample)),
     ("pairs", Whole(code_sets::pairs)),
     ("singles", Whole(code_sets::singles)),
@@ -48,6 +51,9 @@ const SETS: [(&str, Fill); 13] = [
     ("sequences", FromSeed(receiver::sequences)),
     ("queue", FromSeed(queue_sets::calls)),
     ("queue_ill_formed", FromSeed(queue_sets::ill_formed)),
+    ("sender", FromSeed(sender_sets::calls)),
+    ("ill-formed-senders", FromSeed(sender_sets::ill_formed)),
+    ("agreement", FromSeed(agreement::sessions)),
 ];
 
 fn main() {

@@ -13,38 +13,41 @@ use cea608_types::Cea608Writer;
 pub const PLACES: usize = 64;
 
 const FULL: u8 = 7;
-const ILL_FORMED: u8 = 12;
+pub const ILL_FORMED: u8 = 12;
 
-/// A state of the queue, piece by piece, which a caller may hand in.
-#[derive(Clone)]
-pub struct Pieces {
-    pub slots: [Code; PLACES],
-    pub start: usize,
-    pub waiting: usize,
-    pub held: Option<Code>,
-}
-
-/// The crate's writer, beside the queue that `replay` keeps.
-pub struct Asked<'a> {
-    to: &'a mut Transcript,
-    writer: Cea608Writer,
+/// What pushes came upon.
+#[derive(Default)]
+pub struct Pushes {
     /// How often each refusal was due, by its number, and 0 for accepted pushes.
     pub answered: [usize; 13],
-    pub nul_while_full: usize,
+    nul_while_full: usize,
 }
 
-impl<'a> Asked<'a> {
-    /// Begins with a fresh queue.
-    pub fn new(to: &'a mut Transcript) -> Self {
-        to.add(0x34, &[], &[]);
-        Asked {
-            to,
-            writer: Cea608Writer::default(),
-            answered: [0; 13],
-            nul_while_full: 0,
+impl Pushes {
+    pub fn add(&mut self, others: &Pushes) {
+        for (count, other) in self.answered.iter_mut().zip(others.answered) {
+            *count += other;
         }
+        self.nul_while_full += others.nul_while_full;
     }
 
+    /// A comparison that never came to a refusal would say nothing of it.
+    pub fn reached_every_answer(&self) {
+        for refusal in [0, 2, 3, 7] {
+            assert!(self.answered[refusal] > 100, "too few answers {refusal}");
+        }
+        assert!(self.nul_while_full > 10, "too few NULs into a full queue");
+    }
+}
+
+/// The crate's writer, with a push refused where 01 refuses it.
+#[derive(Default)]
+pub struct Writer {
+    writer: Cea608Writer,
+    pub pushes: Pushes,
+}
+
+impl Writer {
     pub fn n_codes(&self) -> usize {
         self.writer.n_codes()
     }
@@ -56,19 +59,20 @@ impl<'a> Asked<'a> {
         codes > PLACES || codes == PLACES && !holds()
     }
 
-    pub fn push(&mut self, code: Code) {
+    /// The number of the refusal, or 0.
+    pub fn push(&mut self, code: Code) -> u8 {
         let refusal = self.refusal_of(code);
         if refusal == 0 {
             self.writer.push(code);
         }
-        self.answered[usize::from(refusal)] += 1;
-        self.to.add(0x30, &code_bytes(code), &[refusal]);
+        self.pushes.answered[usize::from(refusal)] += 1;
+        refusal
     }
 
     fn refusal_of(&mut self, code: Code) -> u8 {
         let full = self.is_full();
         if code == Code::NUL {
-            self.nul_while_full += usize::from(full);
+            self.pushes.nul_while_full += usize::from(full);
             return 0;
         }
         match written(code) {
@@ -78,25 +82,16 @@ impl<'a> Asked<'a> {
         }
     }
 
-    pub fn pop(&mut self) {
-        let [first, second] = self.writer.pop();
-        self.to.add(0x31, &[], &[0, first, second]);
-    }
-
-    pub fn count(&mut self) {
-        let mut answer = [0; 9];
-        answer[1..].copy_from_slice(&self.writer.n_codes().to_le_bytes());
-        self.to.add(0x32, &[], &answer);
+    pub fn pop(&mut self) -> [u8; 2] {
+        self.writer.pop()
     }
 
     pub fn reset(&mut self) {
         self.writer.reset();
-        self.to.add(0x33, &[], &[]);
     }
 
-    /// Sets the queue to a state, and brings the crate's writer into the same one.
-    pub fn set_well_formed(&mut self, pieces: &Pieces) {
-        self.set(pieces);
+    /// Brings the writer into a well-formed state.
+    pub fn bring_to(&mut self, pieces: &Pieces) {
         self.writer.reset();
         if let Some(held) = pieces.held {
             // A single code in front: the pop sends it and holds the command.
@@ -109,21 +104,107 @@ impl<'a> Asked<'a> {
                 .push(pieces.slots[(pieces.start + place) % PLACES]);
         }
     }
+}
+
+/// A state of the queue, piece by piece, which a caller may hand in.
+#[derive(Clone)]
+pub struct Pieces {
+    pub slots: [Code; PLACES],
+    pub start: usize,
+    pub waiting: usize,
+    pub held: Option<Code>,
+}
+
+impl Pieces {
+    pub fn fresh() -> Self {
+        Pieces {
+            slots: [Code::NUL; PLACES],
+            start: 0,
+            waiting: 0,
+            held: None,
+        }
+    }
+
+    /// Sets the queue that `replay` keeps to these pieces.
+    pub fn set(&self, to: &mut Transcript) {
+        to.add(0x34, &[], &[]);
+        to.add(0x35, &self.start.to_le_bytes(), &[]);
+        to.add(0x36, &self.waiting.to_le_bytes(), &[]);
+        for (place, code) in self.slots.into_iter().enumerate() {
+            if code != Code::NUL {
+                let query = [&code_bytes(code)[..], &[place as u8]].concat();
+                to.add(0x37, &query, &[]);
+            }
+        }
+        let held = code_bytes(self.held.unwrap_or(Code::NUL));
+        let query = [&held[..], &[self.held.is_some().into()]].concat();
+        to.add(0x38, &query, &[]);
+    }
+
+    /// Reads the whole queue, which shall be these pieces.
+    pub fn read_back(&self, to: &mut Transcript) {
+        let numbers = [self.start.to_le_bytes(), self.waiting.to_le_bytes()].concat();
+        to.add(0x39, &[], &numbers);
+        for (place, code) in self.slots.into_iter().enumerate() {
+            let answer = [&[0], &code_bytes(code)[..]].concat();
+            to.add(0x3A, &[place as u8], &answer);
+        }
+        let held = code_bytes(self.held.unwrap_or(Code::NUL));
+        let answer = [&[self.held.is_some().into()], &held[..]].concat();
+        to.add(0x3B, &[], &answer);
+    }
+}
+
+/// The answer of a count: no refusal, and the number.
+pub fn count_answer(codes: usize) -> [u8; 9] {
+    let mut answer = [0; 9];
+    answer[1..].copy_from_slice(&codes.to_le_bytes());
+    answer
+}
+
+/// The crate's writer, beside the queue that `replay` keeps.
+pub struct Asked<'a> {
+    to: &'a mut Transcript,
+    pub writer: Writer,
+}
+
+impl<'a> Asked<'a> {
+    /// Begins with a fresh queue.
+    pub fn new(to: &'a mut Transcript) -> Self {
+        to.add(0x34, &[], &[]);
+        let writer = Writer::default();
+        Asked { to, writer }
+    }
+
+    pub fn push(&mut self, code: Code) {
+        let refusal = self.writer.push(code);
+        self.to.add(0x30, &code_bytes(code), &[refusal]);
+    }
+
+    pub fn pop(&mut self) {
+        let [first, second] = self.writer.pop();
+        self.to.add(0x31, &[], &[0, first, second]);
+    }
+
+    pub fn count(&mut self) {
+        let answer = count_answer(self.writer.n_codes());
+        self.to.add(0x32, &[], &answer);
+    }
+
+    pub fn reset(&mut self) {
+        self.writer.reset();
+        self.to.add(0x33, &[], &[]);
+    }
+
+    /// Sets the queue to a state, and brings the crate's writer into the same one.
+    pub fn set_well_formed(&mut self, pieces: &Pieces) {
+        self.set(pieces);
+        self.writer.bring_to(pieces);
+    }
 
     /// Sets the queue to any state.
     pub fn set(&mut self, pieces: &Pieces) {
-        self.to.add(0x34, &[], &[]);
-        self.to.add(0x35, &pieces.start.to_le_bytes(), &[]);
-        self.to.add(0x36, &pieces.waiting.to_le_bytes(), &[]);
-        for (place, code) in pieces.slots.into_iter().enumerate() {
-            if code != Code::NUL {
-                let query = [&code_bytes(code)[..], &[place as u8]].concat();
-                self.to.add(0x37, &query, &[]);
-            }
-        }
-        let held = code_bytes(pieces.held.unwrap_or(Code::NUL));
-        let query = [&held[..], &[pieces.held.is_some().into()]].concat();
-        self.to.add(0x38, &query, &[]);
+        pieces.set(self.to);
     }
 
     /// Every call that tests the state, on one that is not well formed.
@@ -135,17 +216,8 @@ impl<'a> Asked<'a> {
         self.to.add(0x32, &[], &[ILL_FORMED]);
     }
 
-    /// Reads the whole state, which shall be these pieces.
     pub fn read_back(&mut self, pieces: &Pieces) {
-        let numbers = [pieces.start.to_le_bytes(), pieces.waiting.to_le_bytes()].concat();
-        self.to.add(0x39, &[], &numbers);
-        for (place, code) in pieces.slots.into_iter().enumerate() {
-            let answer = [&[0], &code_bytes(code)[..]].concat();
-            self.to.add(0x3A, &[place as u8], &answer);
-        }
-        let held = code_bytes(pieces.held.unwrap_or(Code::NUL));
-        let answer = [&[pieces.held.is_some().into()], &held[..]].concat();
-        self.to.add(0x3B, &[], &answer);
+        pieces.read_back(self.to);
     }
 }
 

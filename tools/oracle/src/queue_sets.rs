@@ -11,7 +11,7 @@ use cea608_types::tables::{Code, Control};
 
 /// How many codes wait or are held when a stretch of calls turns from pushing to popping: none,
 /// few, nearly 64, 64, and some that press on against the limit.
-const LEVELS: [usize; 14] = [0, 0, 1, 1, 2, 2, 3, 32, 62, 63, 64, 65, 70, 80];
+pub const LEVELS: [usize; 14] = [0, 0, 1, 1, 2, 2, 3, 32, 62, 63, 64, 65, 70, 80];
 
 const ROUNDS: usize = 300;
 const STRETCHES: usize = 8;
@@ -20,9 +20,9 @@ const STRETCHES: usize = 8;
 /// anywhere, so that the codes cross the ring's seam; the count is asked after every call.
 pub fn calls(to: &mut Transcript, random: &mut Random) {
     let mut asked = Asked::new(to);
-    every_unknown(&mut asked);
-    every_command_that_needs_a_backspace(&mut asked);
-    every_three_kinds(&mut asked);
+    for codes in short_sequences() {
+        push_all_and_pop(&mut asked, &codes);
+    }
     refusals_change_nothing(&mut asked, random);
     for round in 0..ROUNDS {
         if round % 3 == 0 {
@@ -39,45 +39,51 @@ pub fn calls(to: &mut Transcript, random: &mut Random) {
             run_empty(&mut asked);
         }
     }
-    reached_every_answer(&asked);
+    asked.writer.pushes.reached_every_answer();
+}
+
+/// Sequences of a few codes, in which every case of a pop is met.
+pub fn short_sequences() -> Vec<Vec<Code>> {
+    [
+        every_unknown(),
+        every_command_that_needs_a_backspace(),
+        every_three_kinds(),
+    ]
+    .concat()
 }
 
 /// Each `Unknown` of one byte, by itself and on either side of a letter.
-fn every_unknown(asked: &mut Asked) {
+fn every_unknown() -> Vec<Vec<Code>> {
+    let mut all = vec![];
     for byte in 0..=0xFF {
-        let unknown = Code::Unknown(byte);
-        for codes in [
-            &[unknown][..],
-            &[LETTERS[33], unknown],
-            &[unknown, LETTERS[33]],
-        ] {
-            push_all_and_pop(asked, codes);
-        }
+        let (unknown, letter) = (Code::Unknown(byte), LETTERS[33]);
+        all.extend([vec![unknown], vec![letter, unknown], vec![unknown, letter]]);
     }
+    all
 }
 
 /// By itself, after one single code and after two, on both channels.
-fn every_command_that_needs_a_backspace(asked: &mut Asked) {
+fn every_command_that_needs_a_backspace() -> Vec<Vec<Code>> {
     let mut commands = SYMBOLS[16..].to_vec();
     for underline in FLAGS {
         commands.extend((0..MID_ROW_COLOURS).map(|colour| mid_row_code(colour, underline)));
     }
+    let mut all = vec![];
     for channel in CHANNELS {
         for &code in &commands {
             let (command, letter) = (control(None, channel, code), LETTERS[33]);
-            for codes in [
-                &[command][..],
-                &[letter, command],
-                &[letter, letter, command],
-            ] {
-                push_all_and_pop(asked, codes);
-            }
+            all.extend([
+                vec![command],
+                vec![letter, command],
+                vec![letter, letter, command],
+            ]);
         }
     }
+    all
 }
 
 /// Every sequence of three codes of these kinds.
-fn every_three_kinds(asked: &mut Asked) {
+fn every_three_kinds() -> Vec<Vec<Code>> {
     let kinds = [
         Code::NUL,
         LETTERS[33],
@@ -92,13 +98,13 @@ fn every_three_kinds(asked: &mut Asked) {
         plain(Control::Unknown([0x41, 0x42])),
         plain(Control::Unknown([0x14, 0x80])),
     ];
+    let mut all = vec![];
     for first in kinds {
         for second in kinds {
-            for third in kinds {
-                push_all_and_pop(asked, &[first, second, third]);
-            }
+            all.extend(kinds.map(|third| vec![first, second, third]));
         }
     }
+    all
 }
 
 fn push_all_and_pop(asked: &mut Asked, codes: &[Code]) {
@@ -114,10 +120,9 @@ fn refusals_change_nothing(asked: &mut Asked, random: &mut Random) {
     for waiting in [0, 1, 63, 64] {
         for start in [0, 1, 63] {
             let pieces = Pieces {
-                slots: [(); PLACES].map(|()| waiting_code(random)),
                 start,
                 waiting,
-                ..well_formed(random)
+                ..of_good_codes(random)
             };
             asked.set_well_formed(&pieces);
             asked.push(Code::NUL);
@@ -136,7 +141,7 @@ fn refusals_change_nothing(asked: &mut Asked, random: &mut Random) {
 /// Pushes until so many are inside, or for a while against the limit, then pops some.
 fn stretch(asked: &mut Asked, random: &mut Random, level: usize) {
     for _ in 0..level + 8 {
-        if asked.n_codes() >= level {
+        if asked.writer.n_codes() >= level {
             break;
         }
         asked.push(any_code(random));
@@ -158,21 +163,13 @@ fn stretch(asked: &mut Asked, random: &mut Random, level: usize) {
 
 /// Pops twice for each code and three times more, which is to the last code and beyond.
 fn run_empty(asked: &mut Asked) {
-    for _ in 0..=2 * asked.n_codes() + 2 {
+    for _ in 0..=2 * asked.writer.n_codes() + 2 {
         asked.pop();
         asked.count();
     }
 }
 
-/// A comparison that never came to a refusal would say nothing of it.
-fn reached_every_answer(asked: &Asked) {
-    for refusal in [0, 2, 3, 7] {
-        assert!(asked.answered[refusal] > 100, "too few answers {refusal}");
-    }
-    assert!(asked.nul_while_full > 10, "too few NULs into a full queue");
-}
-
-fn any_code(random: &mut Random) -> Code {
+pub fn any_code(random: &mut Random) -> Code {
     match random.below(13) {
         0 => Code::NUL,
         1 => Code::Unknown(random.below(0x100) as u8),
@@ -227,7 +224,7 @@ fn waiting_code(random: &mut Random) -> Code {
 }
 
 /// A well-formed state. What stands at the free places does not matter, and is anything.
-fn well_formed(random: &mut Random) -> Pieces {
+pub fn well_formed(random: &mut Random) -> Pieces {
     let start = random.pick(&[0, 1, 31, 60, 61, 62, 63]);
     let waiting = random.pick(&[0, 1, 2, 3, 40, 62, 63, 64]);
     let mut slots = [Code::NUL; PLACES];
@@ -250,34 +247,55 @@ fn well_formed(random: &mut Random) -> Pieces {
     }
 }
 
+/// A well-formed state with a code at every place that may wait, so that it stays well formed
+/// wherever it starts and however many wait.
+pub fn of_good_codes(random: &mut Random) -> Pieces {
+    Pieces {
+        slots: [(); PLACES].map(|()| waiting_code(random)),
+        ..well_formed(random)
+    }
+}
+
 /// Every clause of refusal 12 broken alone, in several states each: each call refuses, and the
 /// state that comes back is the same in every piece. A good state in its place works, and a reset
 /// takes it to a fresh one.
 pub fn ill_formed(to: &mut Transcript, random: &mut Random) {
     let mut asked = Asked::new(to);
     for _ in 0..2 {
-        for start in NUMBERS {
-            break_and_reset(&mut asked, random, |pieces| pieces.start = start);
+        for broken_by in every_break() {
+            break_and_reset(&mut asked, random, broken_by);
         }
-        for waiting in NUMBERS.into_iter().filter(|&number| number > PLACES) {
-            break_and_reset(&mut asked, random, |pieces| pieces.waiting = waiting);
-        }
-        for code in not_to_wait() {
-            for place in [0, 1, 31, 62, 63] {
-                break_and_reset(&mut asked, random, |pieces| {
-                    pieces.waiting = pieces.waiting.max(place + 1);
-                    pieces.slots[(pieces.start + place) % PLACES] = code;
-                });
-            }
-        }
-        for code in not_to_hold() {
-            break_and_reset(&mut asked, random, |pieces| pieces.held = Some(code));
-        }
-        break_and_reset(&mut asked, random, |pieces| {
-            pieces.start = usize::MAX;
-            pieces.waiting = usize::MAX;
-        });
     }
+}
+
+/// What breaks a well-formed state.
+pub type Break = Box<dyn Fn(&mut Pieces)>;
+
+/// Each clause of refusal 12 broken alone, in several ways, and at last two by the largest number.
+pub fn every_break() -> Vec<Break> {
+    let mut all: Vec<Break> = vec![];
+    for start in NUMBERS {
+        all.push(Box::new(move |pieces| pieces.start = start));
+    }
+    for waiting in NUMBERS.into_iter().filter(|&number| number > PLACES) {
+        all.push(Box::new(move |pieces| pieces.waiting = waiting));
+    }
+    for code in not_to_wait() {
+        for place in [0, 1, 31, 62, 63] {
+            all.push(Box::new(move |pieces| {
+                pieces.waiting = pieces.waiting.max(place + 1);
+                pieces.slots[(pieces.start + place) % PLACES] = code;
+            }));
+        }
+    }
+    for code in not_to_hold() {
+        all.push(Box::new(move |pieces| pieces.held = Some(code)));
+    }
+    all.push(Box::new(|pieces| {
+        pieces.start = usize::MAX;
+        pieces.waiting = usize::MAX;
+    }));
+    all
 }
 
 const NUMBERS: [usize; 14] = [
@@ -304,7 +322,7 @@ fn not_to_wait() -> Vec<Code> {
     codes
 }
 
-fn outside_the_domain() -> Vec<Code> {
+pub fn outside_the_domain() -> Vec<Code> {
     let mut codes: Vec<Code> = [0x80, 0xC1, 0xFF].map(Code::Unknown).into();
     for bytes in [[0x80, 0x20], [0x14, 0x80], [0xFF, 0xFF]] {
         codes.push(plain(Control::Unknown(bytes)));
@@ -325,10 +343,7 @@ fn not_to_hold() -> Vec<Code> {
 
 /// Breaks a well-formed state in one way.
 fn break_alone(asked: &mut Asked, random: &mut Random, broken_by: impl Fn(&mut Pieces)) {
-    let good = Pieces {
-        slots: [(); PLACES].map(|()| waiting_code(random)),
-        ..well_formed(random)
-    };
+    let good = of_good_codes(random);
     let mut broken = good.clone();
     broken_by(&mut broken);
     asked.set(&broken);
@@ -349,12 +364,7 @@ fn break_and_reset(asked: &mut Asked, random: &mut Random, broken_by: impl Fn(&m
     broken_by(&mut broken);
     asked.set(&broken);
     asked.reset();
-    asked.read_back(&Pieces {
-        slots: [Code::NUL; PLACES],
-        start: 0,
-        waiting: 0,
-        held: None,
-    });
+    asked.read_back(&Pieces::fresh());
     asked.count();
     asked.pop();
 }

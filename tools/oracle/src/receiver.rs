@@ -5,7 +5,25 @@ use crate::code::{refusal, with_parity};
 use crate::random::Random;
 use crate::transcript::Transcript;
 use crate::values::{event_bytes, field_byte, EVENT};
-use cea608_types::{Cea608State, ParserError};
+use cea608_types::tables::Field;
+use cea608_types::{Cea608, Cea608State, ParserError};
+
+/// What the crate says to a pair.
+#[derive(Clone, Copy, Debug, PartialEq)]
+pub enum Heard {
+    Event(Cea608),
+    Nothing,
+    InvalidParity,
+}
+
+pub fn heard(state: &mut Cea608State, pair: [u8; 2]) -> Heard {
+    match state.decode(pair) {
+        Ok(Some(event)) => Heard::Event(event),
+        Ok(None) => Heard::Nothing,
+        Err(ParserError::InvalidParity) => Heard::InvalidParity,
+        Err(other) => panic!("the crate refuses pair {pair:02X?} by {other:?}"),
+    }
+}
 
 pub struct Receiver<'a> {
     to: &'a mut Transcript,
@@ -26,19 +44,24 @@ impl<'a> Receiver<'a> {
         self.to.add(0x28, &[], &[]);
     }
 
-    pub fn decode(&mut self, pair: [u8; 2]) {
+    pub fn decode(&mut self, pair: [u8; 2]) -> Heard {
         let mut answer = [0; 3 + EVENT];
-        match self.state.decode(pair) {
-            Ok(Some(event)) => {
+        let heard = heard(&mut self.state, pair);
+        match heard {
+            Heard::Event(event) => {
                 answer[1] = 1;
                 answer[2..2 + EVENT].copy_from_slice(&event_bytes(event));
             }
-            Ok(None) => {}
-            Err(ParserError::InvalidParity) => answer[0] = refusal::PARITY,
-            Err(other) => panic!("the crate refuses pair {pair:02X?} by {other:?}"),
+            Heard::Nothing => {}
+            Heard::InvalidParity => answer[0] = refusal::PARITY,
         }
-        answer[2 + EVENT] = field_byte(self.state.last_received_field());
+        answer[2 + EVENT] = field_byte(self.field());
         self.to.add(0x29, &pair, &answer);
+        heard
+    }
+
+    pub fn field(&self) -> Option<Field> {
+        self.state.last_received_field()
     }
 
     pub fn decode_all(&mut self, pairs: &[[u8; 2]]) {
@@ -51,7 +74,7 @@ impl<'a> Receiver<'a> {
 pub const PADDING: [u8; 2] = [0x80, 0x80];
 
 const ROLL_UP_2: [u8; 2] = [0x94, 0x25];
-const HI: [u8; 2] = [0xC8, 0xE9];
+pub const HI: [u8; 2] = [0xC8, 0xE9];
 
 /// Each pair of odd parity twice, read by a fresh receiver and by one that has read a command; and once by a fresh one,
 /// with text behind it, which tells the channel.

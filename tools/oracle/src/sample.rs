@@ -1,6 +1,7 @@
 //! The sample that is stored beside `replay`: the places where one case of the text ends and the
 //! next begins, each refusal, and some more of everything from a fixed seed.
 
+use crate::agreement;
 use crate::code::*;
 use crate::code_sets::{table_characters, CHANNELS, FIELDS, FIELDS_OR_NONE, FLAGS};
 use crate::event::{
@@ -8,9 +9,10 @@ use crate::event::{
     mode, mode_of_command, parts, text, without_code,
 };
 use crate::names::{COLOURS, COMMANDS, LETTERS, MID_ROW_COLOURS, MODES, STYLES, SYMBOLS, TABS};
+use crate::queue_sets;
 use crate::random::{Random, SEED};
 use crate::receiver::{sequence, Receiver, PADDING};
-use crate::queue_sets;
+use crate::sender_sets;
 use crate::transcript::Transcript;
 use cea608_types::tables::{Channel, Code, Control, Field};
 use cea608_types::Cea608;
@@ -40,6 +42,8 @@ pub fn sample(to: &mut Transcript) {
     modes_and_services(to);
     pairs_received(to, &mut random);
     queue_sets::sample(to);
+    sender_sets::sample(to);
+    agreement::sample(to);
 }
 
 /// Adds parity to two stripped bytes and asks for the pair.

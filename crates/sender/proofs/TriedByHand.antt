@@ -1,0 +1,14 @@
+-- 01's pairs tried by hand that are to be proved, in one statement. antt computes it from the definitions.
+-- Assumes nothing.
+use mathlib.Core.List.{map}
+use mathlib.Core.Path.{_≡_, refl}
+use lib.Count.{ones, onesIn}
+use Rattle.code.specs.Read.{readPair}
+use Rattle.code.specs.Write.{inDomain, writeCode}
+use Rattle.queue.specs.Queue.{admit, pairOf, pop}
+use Rattle.queue.specs.Ring.{popRing, pushRing, wellFormed}
+use Rattle.sender.specs.TriedByHand.{pairsTried, try, whatTheyGive}
+
+pub tried-by-hand : map try pairsTried ≡ whatTheyGive
+unfolding readPair ones onesIn writeCode inDomain admit pairOf pop pushRing popRing wellFormed
+tried-by-hand = refl

@@ -1,0 +1,16 @@
+-- What a set makes of a line whose padding was changed after the line was sent, demand 3 and the frame-rate law together.
+-- The spoiled places are those of what arrived; what is said here is that events and refusals keep their order.
+use mathlib.Core.List.{List}
+use mathlib.Core.Path.{_≡_}
+use Rattle.code.specs.declared.pair.Pair.{Pair}
+use Rattle.receiver.specs.Reading.{after, afterOnce, answers, events, readOnce, said}
+use Rattle.receiver.specs.Receiver.{fresh}
+use Rattle.sender.specs.Agreement.{Act, queuePairs}
+use Rattle.sender.specs.Sender.{freshSender}
+
+pub record AtAnyPadding (acts : List Act) (arrived padded : List Pair) : Type 0 where
+  pub same-events : events (answers fresh padded) ≡ events (readOnce fresh (queuePairs acts freshSender))
+  pub same-channel : after fresh padded .«last_channel» ≡ afterOnce fresh (queuePairs acts freshSender) .«last_channel»
+  pub same-field : after fresh padded .«last_received_field» ≡ afterOnce fresh (queuePairs acts freshSender) .«last_received_field»
+  -- events and refusals in their order
+  pub same-said : said (answers fresh padded) ≡ said (answers fresh arrived)

@@ -1,0 +1,89 @@
+-- 01's pairs tried by hand that are to be proved, those marked P, as one list in 01's order, each with what is asked of it
+-- and what it gives. A set reads a pair by itself, or hears pairs when fresh; or codes are queued, and pairs popped.
+use Prim.Native.Nat.{ℕ}
+use mathlib.Core.Bool.{false}
+use mathlib.Core.List.{List, [], _∷_, _++_, map}
+use mathlib.Core.Option.{Option, none, some}
+use lib.ListN.{replicate}
+use Rattle.code.specs.Channel.{channelOne, fieldOne, fieldTwo}
+use Rattle.code.specs.MidRow.{italic}
+use Rattle.code.specs.Letter.{letterAt}
+use Rattle.code.specs.Outcome.{Outcome, answer}
+use Rattle.code.specs.Read.{readPair}
+use Rattle.code.specs.Symbol.{symbolAt}
+use Rattle.code.specs.Write.{pair}
+use Rattle.code.specs.declared.code.Code.{Code}
+use Rattle.code.specs.declared.code.Code.the-variants as code
+use Rattle.code.specs.declared.color.Color.the-variants.{White}
+use Rattle.code.specs.declared.control.CodeField.{CodeField}
+use Rattle.code.specs.declared.control.CodeField.the-variants.{Absent, Of}
+use Rattle.code.specs.declared.control.Command.the-variants.{EraseDisplayedMemory}
+use Rattle.code.specs.declared.control.Control.{Control}
+use Rattle.code.specs.declared.control.Control.the-variants as control
+use Rattle.code.specs.declared.control.Tab.the-variants.{TabOffset1}
+use Rattle.code.specs.declared.pair.Pair.{Pair}
+use Rattle.code.specs.declared.preamble.PreambleType.the-variants as style
+use Rattle.event.specs.declared.event.Cea608.{Cea608}
+use Rattle.event.specs.declared.event.Cea608.the-variants as event
+use Rattle.event.specs.declared.mode.Mode.the-variants.{RollUp2}
+use Rattle.queue.specs.Calls.{Reply, popping, pushing, ringReplies, toPop, toPush}
+use Rattle.queue.specs.Ring.{freshRing}
+use Rattle.receiver.specs.Reading.{answers}
+use Rattle.receiver.specs.Receiver.{fresh}
+
+pub data Tried : Type 0 where
+  reads : Pair → Tried
+  hears : List Pair → Tried
+  queues : List Code → ℕ → Tried
+
+pub data Gave : Type 0 where
+  codes : Outcome (Code × Code) → Gave
+  heard : List (Outcome (Option Cea608)) → Gave
+  replies : List Reply → Gave
+
+-- codes that are pushed, and so many pops behind them
+abbrev pub try : Tried → Gave
+try (reads p) = codes (readPair (p .0) (p .1))
+try (hears ps) = heard (answers fresh ps)
+try (queues cs n) = replies (ringReplies (map pushing cs ++ replicate n popping) freshRing)
+
+abbrev rollUp2 : Pair
+rollUp2 = pair 0x94 0x25
+
+abbrev letter-H : Code
+letter-H = code.Letter (letterAt 0x28)
+
+-- Á, 12 20
+abbrev pub A-acute : Code
+A-acute = code.Control (record { field = Absent; channel = channelOne; control = control.Symbol (symbolAt 16) })
+
+abbrev pub pairsTried : List Tried
+pairsTried =
+    reads (pair 0x10 0x40) ∷ reads (pair 0x10 0xE0) ∷ reads (pair 0x15 0x2C) ∷ reads (pair 0x94 0x2C) ∷ reads (pair 0x97 0xA1)
+    ∷ reads (pair 0x91 0xAE) ∷ hears (rollUp2 ∷ rollUp2 ∷ rollUp2 ∷ []) ∷ hears (rollUp2 ∷ pair 0x80 0x80 ∷ rollUp2 ∷ [])
+    ∷ hears (pair 0xC8 0xE9 ∷ []) ∷ queues [] 1 ∷ queues (letter-H ∷ A-acute ∷ []) 2 ∷ queues (A-acute ∷ []) 2 ∷ []
+
+-- a command on channel one
+abbrev said : CodeField → Control → Gave
+said f c = codes (answer (code.Control (record { field = f; channel = channelOne; control = c }), code.Nul))
+
+abbrev two-rows : Outcome (Option Cea608)
+two-rows = answer (some (event.NewMode channelOne RollUp2))
+
+abbrev accepted : Reply
+accepted = toPush (answer tt)
+
+abbrev sent : ℕ → ℕ → Reply
+sent a b = toPop (answer (pair a b))
+
+-- row 10 white; no row; erase for field two and for field one; tab 1; italics; an event, none, an event; two events; none;
+-- padding; H and a space, then Á; a space, then Á
+abbrev pub whatTheyGive : List Gave
+whatTheyGive =
+    said Absent (control.Preamble (record { row = 10; underline = false; ty = style.Color White }))
+    ∷ said Absent (control.Unknown 0x10 0x60) ∷ said (Of fieldTwo) (control.Command EraseDisplayedMemory)
+    ∷ said (Of fieldOne) (control.Command EraseDisplayedMemory) ∷ said Absent (control.Tab TabOffset1)
+    ∷ said Absent (control.MidRow (italic false)) ∷ heard (two-rows ∷ answer none ∷ two-rows ∷ [])
+    ∷ heard (two-rows ∷ answer none ∷ two-rows ∷ []) ∷ heard (answer none ∷ []) ∷ replies (sent 0x80 0x80 ∷ [])
+    ∷ replies (accepted ∷ accepted ∷ sent 0xC8 0x20 ∷ sent 0x92 0x20 ∷ [])
+    ∷ replies (accepted ∷ sent 0x20 0x80 ∷ sent 0x92 0x20 ∷ []) ∷ []
