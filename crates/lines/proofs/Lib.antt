@@ -1,0 +1,3 @@
+pub mod AnyCutting
+pub mod Bounds
+pub mod Pieces
