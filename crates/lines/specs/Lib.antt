@@ -2,3 +2,4 @@ pub mod Words
 pub mod Listing
 pub mod Line
 pub mod Pieces
+pub mod Cutting

@@ -32,5 +32,5 @@ listFrom s k q (a ∷ b ∷ rest) =
     cond (leb mostPairs k) (endsRefused 10 k q)
     (lineOf k (step s (pair a b) .0) ++ listFrom (step s (pair a b) .1) (k + 1) (q + refusals (step s (pair a b) .0)) rest)
 
-pub listing : List ℕ → List ℕ
+unfoldable pub listing : List ℕ → List ℕ
 listing bytes = listFrom fresh 0 0 bytes

@@ -21,10 +21,13 @@ use Rattle.event.specs.declared.mode.Mode.the-variants as mode
 abbrev pub atPlace : ℕ → ℕ → List ℕ
 atPlace p n = cond (leb p n) ((0x30 + n / p % 10) ∷ []) []
 
+abbrev pub atPlaces : List ℕ → ℕ → List ℕ
+atPlaces [] n = (0x30 + n % 10) ∷ []
+atPlaces (p ∷ ps) n = atPlace p n ++ atPlaces ps n
+
 unfoldable pub decimal : ℕ → List ℕ
 decimal n =
-    atPlace 1000000000 n ++ (atPlace 100000000 n ++ (atPlace 10000000 n ++ (atPlace 1000000 n ++ (atPlace 100000 n
-    ++ (atPlace 10000 n ++ (atPlace 1000 n ++ (atPlace 100 n ++ (atPlace 10 n ++ ((0x30 + n % 10) ∷ [])))))))))
+    atPlaces (1000000000 ∷ 100000000 ∷ 10000000 ∷ 1000000 ∷ 100000 ∷ 10000 ∷ 1000 ∷ 100 ∷ 10 ∷ []) n
 
 -- four hex digits with capitals
 abbrev pub hexDigit : ℕ → ℕ
