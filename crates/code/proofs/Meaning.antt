@@ -1,29 +1,26 @@
 -- What two bytes of a control code say, as the code decides it: the preambles by their first bytes' rows, the rest by
--- the control table. One computation over all of them shows that it is what the text says.
+-- their upper digits. One computation over all of them shows that it is what the text says.
 -- Assumes nothing.
-use Rattle.code.specs.Characters.{standard}
 use mathlib.Core.Bool.{Bool, true, false, cond, _&&_}
-use mathlib.Core.List.{map}
 use mathlib.Core.Option.{Option, none, some}
 use mathlib.Core.Path.{_≡_, refl}
-use Prim.Native.Nat.{ℕ, _+_, _*_, _-_, _/_, _%_, _≤_, _<_}
+use Prim.Native.Nat.{ℕ, _+_, _*_, _/_, _%_, _≤_, _<_}
 use borrow.Author.Tests.{ltb-true}
 use lib.Dec.{eqb, leb, ltb, lit<, lit≤}
 use Rattle.code.proofs.Agree.{agree, agree-from, agree-grid}
+use Rattle.code.specs.Control.{commandAt}
 use Rattle.code.specs.MidRow.{midRowAt}
-use Rattle.code.specs.Position.{position}
 use Rattle.code.specs.Preamble.{styleAt}
-use Rattle.code.specs.Read.{channelOf, commandOf, fieldOf, isCommand, meaning, orUnknown, underlined, within, withoutChannel, withoutField, single}
-use Rattle.code.specs.Tables.{bytesOf, codeEntries, codeAt, controlEntries, controlAt, firstRowAt, meaningOf}
+use Rattle.code.specs.Read.{channelOf, commandOf, fieldOf, isCommand, meaning, orUnknown, symbolIn, underlined, within, withoutChannel, withoutField}
+use Rattle.code.specs.Tables.{firstRowAt, meaningOf, tabIn}
 use Rattle.code.specs.declared.channel.Channel.{Channel}
-use Rattle.code.specs.declared.code.Code.{Code}
-use Rattle.code.specs.declared.code.Code.the-variants as code
 use Rattle.code.specs.declared.control.CodeField.{CodeField}
 use Rattle.code.specs.declared.control.Control.{Control}
 use Rattle.code.specs.declared.control.Control.the-variants as control
 use Rattle.code.specs.declared.control.ControlCode.{ControlCode}
 use Rattle.code.specs.declared.read.Meaning.{Meaning}
 use Rattle.code.specs.declared.read.Meaning.the-variants as meant
+use Rattle.code.specs.declared.symbol.SymbolRow.the-variants.{Special, Spanish, French, Portuguese, German}
 
 abbrev pub inRow : ℕ → ℕ → Option Control
 inRow b row = some (control.Preamble (record { row = row; underline = underlined b; ty = styleAt (b % 32 / 2) }))
@@ -31,18 +28,22 @@ inRow b row = some (control.Preamble (record { row = row; underline = underlined
 abbrev pub decidedRow : ℕ → ℕ → Option Control
 decidedRow p b = cond (ltb b 0x60) (inRow b (firstRowAt (p % 8))) (cond (eqb p 0x10) none (inRow b (firstRowAt (p % 8) + 1)))
 
-abbrev pub atEntry : Option ℕ → Option Control
-atEntry none = none
-atEntry (some i) = some (controlAt i)
+-- by the upper three of the four digits
+abbrev pub decidedOther : ℕ → ℕ → Option Control
+decidedOther digits b =
+    cond (eqb digits 0x112) (some (control.MidRow (midRowAt (b % 16 / 2) (underlined b))))
+    (cond (eqb digits 0x113) (symbolIn Special b)
+    (cond (eqb digits 0x122) (symbolIn Spanish b)
+    (cond (eqb digits 0x123) (symbolIn French b)
+    (cond (eqb digits 0x132) (symbolIn Portuguese b)
+    (cond (eqb digits 0x133) (symbolIn German b)
+    (cond (eqb digits 0x142) (some (control.Command (commandAt (b % 16))))
+    (cond (eqb digits 0x172) (tabIn b) none)))))))
 
 abbrev pub decided : ℕ → ℕ → Option Control
-decided p b =
-    cond (leb 0x40 b) (decidedRow p b)
-    (cond (eqb ((p * 256 + b) / 16) 0x112) (some (control.MidRow (midRowAt ((b - 0x20) / 2) (underlined b))))
-    (atEntry (position (p * 256 + b) (map bytesOf controlEntries))))
+decided p b = cond (leb 0x40 b) (decidedRow p b) (decidedOther (p * 16 + b / 16) b)
 
 pub decided-is : (p b : ℕ) → 16 ≤ p → p < 24 → b < 128 → decided p b ≡ meaning p b
-unfolding controlEntries
 decided-is p b from below less = agree-grid decided meaning 16 8 128 refl p b from below less
 
 -- 10 to 1F, by the upper digit
@@ -77,15 +78,6 @@ said-is a b (some c) = refl
 pub parsed : (a b p : ℕ) (ch : Channel) (f : CodeField) (r : Meaning) → 16 ≤ a → a < 32 → ch ≡ channelOf a → f ≡ fieldOf (a % 8 + 16) b → p ≡ withoutField (a % 8 + 16) b → r ≡ meaningOf (meaning p b) → _≡_ {A = ControlCode} (record { field = f; channel = ch; control = said a b r }) (commandOf a b)
 parsed a b p ch f r from below of-channel field prefix found =
     simp (found, prefix, field, of-channel, said-is, without-channel a from below)
-
--- a single byte, by the table of characters
-abbrev pub codeOr : ℕ → Option ℕ → Code
-codeOr b none = code.Unknown b
-codeOr b (some i) = codeAt i
-
-pub found-single : (b : ℕ) → b < 128 → codeOr b (position b (map bytesOf codeEntries)) ≡ single b
-unfolding codeEntries standard
-found-single b less = agree (λ (x : ℕ). codeOr x (position x (map bytesOf codeEntries))) single 128 refl b less
 
 -- a row that has a second half leaves room for it
 pub first-row-small : (n : ℕ) → n < 8 → firstRowAt n < 14

@@ -7,12 +7,12 @@ use Prim.Native.Nat.{ℕ, _/_, _%_, _<_}
 use lib.Count.{ones, onesIn}
 use lib.ListN.{getD}
 use Rattle.code.proofs.Agree.{agree}
-use Rattle.code.proofs.Increasing.{increasing}
+use Rattle.code.proofs.Increasing.{Increasing, increasing}
 use Rattle.code.specs.Characters.{standard, symbols}
 use Rattle.code.specs.Outcome.{answer}
 use Rattle.code.specs.Position.{position}
 use Rattle.code.specs.Read.{meaning, rowPrefixes, single}
-use Rattle.code.specs.Tables.{bytesOf, codeAt, codeEntries, controlAt, controlEntries, Increasing}
+use Rattle.code.specs.Tables.{bytesOf, codeAt, codeEntries, controlAt, controlEntries}
 use Rattle.code.specs.Write.{asSingle, controlBytes, twoBytes, writeCode}
 
 pub characters-rise : Increasing codeEntries

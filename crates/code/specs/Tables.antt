@@ -1,15 +1,16 @@
 -- How the code lays its tables out, which no public promise mentions: an entry is one number, its bytes above and its
 -- code point below. The laws of `proofs/Meaning` and `proofs/TableRules` tie it to the definitions of `Read`, `Write` and
 -- `Characters`.
-use Prim.Native.Nat.{ℕ, suc, _+_, _*_, _-_, _/_, _%_, _<_}
+use Prim.Native.Nat.{ℕ, suc, _+_, _*_, _-_, _/_, _%_}
 use mathlib.Core.Bool.{cond}
 use mathlib.Core.List.{List, [], _∷_, _++_}
 use mathlib.Core.Option.{Option, none, some}
 use lib.Dec.{eqb, ltb}
-use lib.ListN.{length, getD, replicate}
+use lib.ListN.{getD, replicate}
 use Rattle.code.specs.Characters.{standard, special, spanish, french, portuguese, german}
 use Rattle.code.specs.Control.{commandAt, tabAt}
 use Rattle.code.specs.Letter.{letterAt}
+use Rattle.code.specs.Read.{within}
 use Rattle.code.specs.Symbol.{symbolAt}
 use Rattle.code.specs.declared.code.Code.{Code}
 use Rattle.code.specs.declared.code.Code.the-variants as code
@@ -58,10 +59,6 @@ abbrev pub foundAt : Option ℕ → Found
 foundAt none = Nothing
 foundAt (some i) = At i
 
--- each entry's bytes are above those of every entry before it
-abbrev pub Increasing : List ℕ → Type 0
-Increasing t = (i j : ℕ) → i < j → j < length t → bytesOf (getD t i 0) < bytesOf (getD t j 0)
-
 -- the row of 40 to 5F after each of the first bytes 10 to 17
 abbrev pub firstRowAt : ℕ → ℕ
 firstRowAt n = getD (10 ∷ 0 ∷ 2 ∷ 11 ∷ 13 ∷ 4 ∷ 6 ∷ 8 ∷ []) n 0
@@ -69,3 +66,7 @@ firstRowAt n = getD (10 ∷ 0 ∷ 2 ∷ 11 ∷ 13 ∷ 4 ∷ 6 ∷ 8 ∷ []) n 0
 abbrev pub meaningOf : Option Control → Meaning
 meaningOf none = meant.Nothing
 meaningOf (some c) = meant.Of c
+
+-- the tab of a second byte behind 17
+abbrev pub tabIn : ℕ → Option Control
+tabIn b = cond (within 0x21 0x23 b) (some (control.Tab (tabAt (b - 0x21)))) none

@@ -1,5 +1,7 @@
 // The character of a code, and the code of a character.
 ghost use mathlib.Core.Path.{_≡_};
+ghost use Prim.Native.Nat.{_-_, _≤_, _<_};
+ghost use lib.ListN.{getD};
 ghost use Rattle.code.specs.Position.{position};
 ghost use Rattle.code.specs.Tables.{entryPoint};
 ghost use Rattle.code.specs.Code.{charOf, controlChar, characterOutcome, fromChar, fromCharOutcome, symbolCode};
@@ -49,9 +51,29 @@ impl Letter {
     pub(crate) fn char(self) -> Character
         ensures { λ r. ⌜ characterOutcome r ≡ pointIn standard (letterPlace self) ⌝ }
     {
-        let table = CODE_MAP_TABLE;
-        let entry = self.place() as usize + 1;
-        Character::from_entry(table[entry])
+        Character::Point(standard_point(self.place() + 0x20))
+    }
+}
+
+// The code point of a standard character's byte: ASCII's, but for eleven. The table has it too, and would be copied to
+// the stack for each look into it.
+pub(crate) fn standard_point(byte: u8) -> u32
+    requires { ⌜ (32 ≤ byte) × (byte < 128) ⌝ }
+    ensures { λ r. ⌜ r ≡ getD standard (byte - 32) 0 ⌝ }
+{
+    match byte {
+        0x27 => 0x2019, // ’
+        0x2A => 0x00E1, // á
+        0x5C => 0x00E9, // é
+        0x5E => 0x00ED, // í
+        0x5F => 0x00F3, // ó
+        0x60 => 0x00FA, // ú
+        0x7B => 0x00E7, // ç
+        0x7C => 0x00F7, // ÷
+        0x7D => 0x00D1, // Ñ
+        0x7E => 0x00F1, // ñ
+        0x7F => 0x2588, // █
+        _ => byte as u32,
     }
 }
 

@@ -1,11 +1,12 @@
 // Reading a pair: what was received becomes a command, or two single codes.
 ghost use mathlib.Core.Path.{_≡_};
 ghost use Prim.Native.Nat.{_≤_, _<_, _%_};
-ghost use Rattle.code.specs.Read.{readPair, fromDataOutcome, single, channelOf, commandOf, fieldOf, withoutField, meaning};
-ghost use Rattle.code.specs.Tables.{codeAt, controlAt, firstRowAt, meaningOf};
+ghost use Rattle.code.specs.Read.{readPair, fromDataOutcome, single, channelOf, commandOf, fieldOf, withoutField, meaning, symbolIn};
+ghost use Rattle.code.specs.Tables.{codeAt, controlAt, firstRowAt, meaningOf, tabIn};
 use crate::channel::Channel;
 use crate::channel::Field;
 use crate::code::Code;
+use crate::column::Column;
 use crate::control::CodeField;
 use crate::control::Command;
 use crate::control::Control;
@@ -20,10 +21,7 @@ use crate::parity::strip_parity;
 use crate::preamble::PreambleAddressCode;
 use crate::preamble::PreambleType;
 use crate::symbol::Symbol;
-use crate::tables::CODE_MAP_TABLE;
-use crate::tables::CONTROL_MAP_TABLE;
-use crate::tables::Found;
-use crate::tables::find_bytes;
+use crate::symbol::SymbolRow;
 
 // The codes of a received pair. `InvalidParity` is refusal 1.
 pub enum FromData {
@@ -59,15 +57,17 @@ impl Code {
         }
     }
 
-    // The code of one stripped byte, found in the table of characters.
+    // The code of one stripped byte. No table is searched: that of the characters has every byte from 20 on.
     pub(crate) fn from_byte(byte: u8) -> Code
         requires { ⌜ byte < 128 ⌝ }
         ensures { λ r. ⌜ r ≡ single byte ⌝ }
     {
-        let table = CODE_MAP_TABLE;
-        match find_bytes(&table, byte as u32) {
-            Found::At(i) => Code::at(i),
-            Found::Nothing => Code::Unknown(byte),
+        if 0x20 <= byte {
+            Code::Letter(Letter::at(byte - 0x20))
+        } else if byte == 0 {
+            Code::Nul
+        } else {
+            Code::Unknown(byte)
         }
     }
 
@@ -144,7 +144,7 @@ pub(crate) fn without_field(prefix: u8, second: u8) -> u8
 }
 
 impl Control {
-    // What two bytes say, channel and field aside.
+    // What two bytes say, channel and field aside: below 40 their upper three digits tell it, and no table is searched.
     pub(crate) fn parse(prefix: u8, second: u8) -> Meaning
         requires { ⌜ (16 ≤ prefix) × (prefix < 24) × (second < 128) ⌝ }
         ensures { λ r. ⌜ r ≡ meaningOf (meaning prefix second) ⌝ }
@@ -152,14 +152,41 @@ impl Control {
         if 0x40 <= second {
             return Control::parse_preamble(prefix, second);
         }
-        let bytes = (prefix as u32) * 256 + (second as u32);
-        if bytes / 16 == 0x112 {
-            return Meaning::Of(Control::MidRow(MidRow::at((second - 0x20) / 2, second % 2 == 1)));
+        match (prefix as u32) * 16 + (second as u32) / 16 {
+            0x112 => Meaning::Of(Control::MidRow(MidRow::at(second % 16 / 2, second % 2 == 1))),
+            0x113 => Control::parse_symbol(SymbolRow::Special, second),
+            0x122 => Control::parse_symbol(SymbolRow::Spanish, second),
+            0x123 => Control::parse_symbol(SymbolRow::French, second),
+            0x132 => Control::parse_symbol(SymbolRow::Portuguese, second),
+            0x133 => Control::parse_symbol(SymbolRow::German, second),
+            0x142 => Meaning::Of(Control::Command(Command::at(second % 16))),
+            0x172 => Control::parse_tab(second),
+            _ => Meaning::Nothing,
         }
-        let table = CONTROL_MAP_TABLE;
-        match find_bytes(&table, bytes) {
-            Found::At(i) => Meaning::Of(Control::at(i)),
-            Found::Nothing => Meaning::Nothing,
+    }
+
+    // The symbol of a row, its column in the low digit of the second byte.
+    pub(crate) fn parse_symbol(row: SymbolRow, second: u8) -> Meaning
+        ensures { λ r. ⌜ r ≡ meaningOf (symbolIn row second) ⌝ }
+    {
+        let column = Column::at(second % 16);
+        Meaning::Of(Control::Symbol(Symbol {
+            row: row,
+            column: column,
+        }))
+    }
+
+    // The tab of a second byte behind 17, or nothing.
+    pub(crate) fn parse_tab(second: u8) -> Meaning
+        ensures { λ r. ⌜ r ≡ meaningOf (tabIn second) ⌝ }
+    {
+        if second < 0x21 {
+            return Meaning::Nothing;
+        }
+        if second <= 0x23 {
+            Meaning::Of(Control::Tab(Tab::at(second - 0x21)))
+        } else {
+            Meaning::Nothing
         }
     }
 

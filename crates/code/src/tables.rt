@@ -3,7 +3,7 @@
 ghost use mathlib.Core.List.{map};
 ghost use mathlib.Core.Path.{_≡_};
 ghost use Rattle.code.specs.Position.{position};
-ghost use Rattle.code.specs.Tables.{bytesOf, pointOf, foundAt, Increasing};
+ghost use Rattle.code.specs.Tables.{pointOf, foundAt};
 use crate::pair::Pair;
 
 // The pair of each row's white preamble, in row order 0 to 14: the style and the underline are added to the second byte.
@@ -233,28 +233,6 @@ pub(crate) const CONTROL_MAP_TABLE: [u32; 99] = [
 pub(crate) enum Found {
     At(usize),
     Nothing,
-}
-
-// The entry that has these bytes, in a table whose bytes rise.
-pub(crate) fn find_bytes(table: &[u32], bytes: u32) -> Found
-    requires { ⌜ Increasing (now table) ⌝ }
-    ensures { λ r. ⌜ r ≡ foundAt (position bytes (map bytesOf (now (table .entry)))) ⌝ }
-{
-    let mut low: usize = 0;
-    let mut high: usize = table.len();
-    while low < high {
-        let middle = low + (high - low) / 2;
-        let here = table[middle] / 65536;
-        if here == bytes {
-            return Found::At(middle);
-        }
-        if here < bytes {
-            low = middle + 1;
-        } else {
-            high = middle;
-        }
-    }
-    Found::Nothing
 }
 
 // The first entry that has this code point.

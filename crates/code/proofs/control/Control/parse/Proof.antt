@@ -1,15 +1,8 @@
--- `code::control::Control::parse` meets its contract: the preambles, the mid-row codes and the table's entries are together what the text says (`decided-is`).
+-- `code::control::Control::parse` meets its contract: the preambles, and the rest by their upper digits, are together what the text says (`decided-is`).
 -- Assumes nothing.
-use Prim.Native.Nat.{_+_, _*_}
 use borrow.Author.Needs.{needs}
-use borrow.Author.Tests.{eq-eqb, ne-eqb, lt-leb}
-use mathlib.Core.List.{map}
-use mathlib.Core.Path.{sym, _∙_}
-use Rattle.code.proofs.First.{first-inside, found-none, found-some}
-use Rattle.code.proofs.Increasing.{increasing}
+use borrow.Author.Tests.{ne-eqb, lt-leb}
 use Rattle.code.proofs.Meaning.{decided-is}
-use Rattle.code.specs.Position.{position}
-use Rattle.code.specs.Tables.{bytesOf, controlEntries}
 use Rattle.code.proofs.control.Control.parse.Statement.{statement}
 use Rattle.code.proofs.control.Control.parse.Tie as tie
 
@@ -19,62 +12,74 @@ parse-preamble-requires c κs = search needs
 returns : tie.Need-returns
 returns c = search needs
 
-mul-bytes : tie.Need-mul-bytes
-mul-bytes c = search needs
+mul-match : tie.Need-mul-match
+mul-match c = search needs
 
-add-bytes : tie.Need-add-bytes
-add-bytes c = search needs
-
-sub-at : tie.Need-sub-at
-sub-at c = search needs
+add-match : tie.Need-add-match
+add-match c = search needs
 
 at-requires : tie.Need-at-requires
 at-requires c κs = search needs
 
-returns-2 : tie.Need-returns-2
-returns-2 c = simp (← decided-is _ _ (c .before .before .before .pre .0) (c .before .before .before .pre .1) (c .before .before .before .pre .2), lt-leb _ _ (c .before .before .if1 .left), eq-eqb _ _ (c .before .if2 .taken), c .at .ensures)
+parse-symbol-requires : tie.Need-parse-symbol-requires
+parse-symbol-requires c κs = search needs
 
-slice-aggregate-find-bytes : tie.Need-slice-aggregate-find-bytes
-slice-aggregate-find-bytes c = search needs
+parse-symbol-requires-2 : tie.Need-parse-symbol-requires-2
+parse-symbol-requires-2 c κs = search needs
 
-find-bytes-requires : tie.Need-find-bytes-requires
-unfolding controlEntries
-find-bytes-requires c κs = increasing controlEntries tt
+parse-symbol-requires-3 : tie.Need-parse-symbol-requires-3
+parse-symbol-requires-3 c κs = search needs
 
-enum-known-i : tie.Need-enum-known-i
-enum-known-i c = search needs
+parse-symbol-requires-4 : tie.Need-parse-symbol-requires-4
+parse-symbol-requires-4 c κs = search needs
+
+parse-symbol-requires-5 : tie.Need-parse-symbol-requires-5
+parse-symbol-requires-5 c κs = search needs
 
 at-requires-2 : tie.Need-at-requires-2
-unfolding controlEntries
-at-requires-2 c κs =
-    let place = position (c .before .before .before .before .before .before .before .args .prefix * 256 + c .before .before .before .before .before .before .before .args .second) (map bytesOf controlEntries) in
-    first-inside (c .before .before .before .before .before .before .before .args .prefix * 256 + c .before .before .before .before .before .before .before .args .second) (map bytesOf controlEntries) _
-    (found-some place _ (sym (c .before .before .before .find-bytes .ensures) ∙ c .before .i .given .1))
+at-requires-2 c κs = search needs
 
-enum-told : tie.Need-enum-told
-enum-told c = search needs
+parse-tab-requires : tie.Need-parse-tab-requires
+parse-tab-requires c κs = search needs
+
+returns-2 : tie.Need-returns-2
+returns-2 c = simp (← decided-is _ _ (c .before .before .before .pre .0) (c .before .before .before .pre .1) (c .before .before .before .pre .2), lt-leb _ _ (c .before .before .if1 .left), c .before .match .keys1, c .at .ensures)
 
 returns-3 : tie.Need-returns-3
-unfolding controlEntries
-returns-3 c =
-    let place = position (c .before .before .before .before .before .before .before .before .args .prefix * 256 + c .before .before .before .before .before .before .before .before .args .second) (map bytesOf controlEntries) in
-    simp (
-      ← decided-is _ _ (c .before .before .before .before .before .before .before .before .pre .0) (c .before .before .before .before .before .before .before .before .pre .1) (c .before .before .before .before .before .before .before .before .pre .2),
-      lt-leb _ _ (c .before .before .before .before .before .before .before .if1 .left),
-      ne-eqb _ _ (c .before .before .before .before .before .before .if2 .left),
-      found-some place _ (sym (c .before .before .before .before .find-bytes .ensures) ∙ c .before .before .i .given .1),
-      c .at2 .ensures,
-    )
+returns-3 c = simp (← decided-is _ _ (c .before .before .before .pre .0) (c .before .before .before .pre .1) (c .before .before .before .pre .2), lt-leb _ _ (c .before .before .if1 .left), c .before .match .keys2, c .parse-symbol .ensures)
 
 returns-4 : tie.Need-returns-4
-unfolding controlEntries
-returns-4 c =
-    let place = position (c .before .before .before .before .before .before .args .prefix * 256 + c .before .before .before .before .before .before .args .second) (map bytesOf controlEntries) in
+returns-4 c = simp (← decided-is _ _ (c .before .before .before .pre .0) (c .before .before .before .pre .1) (c .before .before .before .pre .2), lt-leb _ _ (c .before .before .if1 .left), c .before .match .keys3, c .parse-symbol2 .ensures)
+
+returns-5 : tie.Need-returns-5
+returns-5 c = simp (← decided-is _ _ (c .before .before .before .pre .0) (c .before .before .before .pre .1) (c .before .before .before .pre .2), lt-leb _ _ (c .before .before .if1 .left), c .before .match .keys4, c .parse-symbol3 .ensures)
+
+returns-6 : tie.Need-returns-6
+returns-6 c = simp (← decided-is _ _ (c .before .before .before .pre .0) (c .before .before .before .pre .1) (c .before .before .before .pre .2), lt-leb _ _ (c .before .before .if1 .left), c .before .match .keys5, c .parse-symbol4 .ensures)
+
+returns-7 : tie.Need-returns-7
+returns-7 c = simp (← decided-is _ _ (c .before .before .before .pre .0) (c .before .before .before .pre .1) (c .before .before .before .pre .2), lt-leb _ _ (c .before .before .if1 .left), c .before .match .keys6, c .parse-symbol5 .ensures)
+
+returns-8 : tie.Need-returns-8
+returns-8 c = simp (← decided-is _ _ (c .before .before .before .pre .0) (c .before .before .before .pre .1) (c .before .before .before .pre .2), lt-leb _ _ (c .before .before .if1 .left), c .before .match .keys7, c .at2 .ensures)
+
+returns-9 : tie.Need-returns-9
+returns-9 c = simp (← decided-is _ _ (c .before .before .before .pre .0) (c .before .before .before .pre .1) (c .before .before .before .pre .2), lt-leb _ _ (c .before .before .if1 .left), c .before .match .keys8, c .parse-tab .ensures)
+
+returns-10 : tie.Need-returns-10
+returns-10 c =
+    let no = c .match .rest in
     simp (
-      ← decided-is _ _ (c .before .before .before .before .before .before .pre .0) (c .before .before .before .before .before .before .pre .1) (c .before .before .before .before .before .before .pre .2),
-      lt-leb _ _ (c .before .before .before .before .before .if1 .left),
-      ne-eqb _ _ (c .before .before .before .before .if2 .left),
-      found-none place (sym (c .before .before .find-bytes .ensures) ∙ c .enum-told .given .1),
+      ← decided-is _ _ (c .before .before .pre .0) (c .before .before .pre .1) (c .before .before .pre .2),
+      lt-leb _ _ (c .before .if1 .left),
+      ne-eqb _ _ (no .0 .0 .0 .0 .0 .0 .0 .1),
+      ne-eqb _ _ (no .0 .0 .0 .0 .0 .0 .1),
+      ne-eqb _ _ (no .0 .0 .0 .0 .0 .1),
+      ne-eqb _ _ (no .0 .0 .0 .0 .1),
+      ne-eqb _ _ (no .0 .0 .0 .1),
+      ne-eqb _ _ (no .0 .0 .1),
+      ne-eqb _ _ (no .0 .1),
+      ne-eqb _ _ (no .1),
     )
 
 pub parse-spec : {M : Type 1} → statement M
@@ -83,15 +88,22 @@ parse-spec =
     (tie.spec
     parse-preamble-requires
     returns
-    mul-bytes
-    add-bytes
-    sub-at
+    mul-match
+    add-match
     at-requires
-    returns-2
-    slice-aggregate-find-bytes
-    find-bytes-requires
-    enum-known-i
+    parse-symbol-requires
+    parse-symbol-requires-2
+    parse-symbol-requires-3
+    parse-symbol-requires-4
+    parse-symbol-requires-5
     at-requires-2
-    enum-told
+    parse-tab-requires
+    returns-2
     returns-3
-    returns-4)
+    returns-4
+    returns-5
+    returns-6
+    returns-7
+    returns-8
+    returns-9
+    returns-10)
