@@ -1,12 +1,11 @@
 -- A flush, one byte at a time: the output after so many bytes, and that all that there is room for is a flush.
 -- Assumes nothing.
 use mathlib.Core.List.{List, _++_}
-use mathlib.Core.Path.{_≡_, refl, ap, ap₂, sym, _∙_}
+use mathlib.Core.Path.{_≡_, ap, ap₂, sym, _∙_}
 use Prim.Native.Nat.{ℕ, suc, _+_, _≤_, _<_}
-use native.Mathlib.Numerals.{add-one}
 use native.Mathlib.Omega.{arith}
 use lib.ListN.{drop, getD, length, set, take}
-use lib.Seq.{length-front, length-take-le, paste-suc, take-all}
+use lib.Seq.{length-take-le, paste-suc, take-all}
 use Rattle.lines.proofs.Waiting.{byte-at, how-many}
 use Rattle.lines.specs.Line.{flushed, over, pending, waiting}
 use Rattle.lines.specs.declared.line.Line.{Line}

@@ -15,7 +15,7 @@ pub data Put (l : Line) (bytes : List ℕ) (next : Line) : Type 0 where
 pub chain : {l next : Line} {bytes : List ℕ} → Put l bytes next → next ≡ putAll l bytes
 chain (is e) = e
 
-put-parts : (l : Line) (xs ys : List ℕ) → putAll l (xs ++ ys) ≡ putAll (putAll l xs) ys
+pub put-parts : (l : Line) (xs ys : List ℕ) → putAll l (xs ++ ys) ≡ putAll (putAll l xs) ys
 put-parts l [] ys = refl
 put-parts l (x ∷ xs) ys = put-parts (put l x) xs ys
 

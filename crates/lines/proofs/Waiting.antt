@@ -1,13 +1,13 @@
 -- What waits of a line: how much, and the bytes at its places.
 -- Assumes nothing.
 use mathlib.Core.Bool.{Bool, true, false, cond}
-use mathlib.Core.List.{List, [], _∷_}
+use mathlib.Core.List.{List}
 use mathlib.Core.Path.{_≡_, refl, ap, sym, _∙_}
-use Prim.Native.Nat.{ℕ, zero, suc, _+_, _-_, _≤_, _<_}
+use Prim.Native.Nat.{ℕ, zero, suc, _+_, _≤_, _<_}
 use native.Mathlib.Omega.{arith}
-use borrow.Author.Tests.{le-leb, le-ltb, leb-false, leb-true, lt-ltb, ltb-false, ltb-true}
+use borrow.Author.Tests.{le-ltb, leb-false, leb-true, lt-ltb, ltb-false, ltb-true}
 use lib.Dec.{leb, ltb}
-use lib.ListN.{getD, length, length-take, take}
+use lib.ListN.{getD, length, length-take}
 use lib.Seq.{length-take-le, take-all}
 use Rattle.lines.specs.Line.{bytesFrom, hasMore, pending, unwritten, waiting, writes}
 use Rattle.lines.specs.declared.line.Line.{Line}
@@ -20,19 +20,22 @@ last-place-by : (len : ℕ) (t : Bool) → leb 96 len ≡ t → (cond t 96 len �
 last-place-by len true e = (omega arith, omega (arith, leb-true 96 len e), λ n small less. omega arith)
 last-place-by len false e = (omega (arith, leb-false 96 len e), omega arith, λ n small less. omega arith)
 
+last-place : (len : ℕ) → (lastPlace len ≤ 96) × (lastPlace len ≤ len) × ((n : ℕ) → n < 96 → n < len → n < lastPlace len)
+last-place len = last-place-by len (leb 96 len) refl
+
 -- no more wait than are in front of either
 pub behind-96 : (l : Line) (count : ℕ) → 96 ≤ l .at + count → waiting l ≤ count
-behind-96 l count h = omega (arith, last-place-by (l .len) (leb 96 (l .len)) refl .0)
+behind-96 l count h = omega (arith, last-place (l .len) .0)
 
 pub behind-length : (l : Line) (count : ℕ) → l .len ≤ l .at + count → waiting l ≤ count
-behind-length l count h = omega (arith, last-place-by (l .len) (leb 96 (l .len)) refl .1)
+behind-length l count h = omega (arith, last-place (l .len) .1)
 
 pub none-behind-96 : (l : Line) → 96 ≤ l .at → hasMore l ≡ false
 none-behind-96 l h = le-ltb 0 (waiting l) (behind-96 l 0 (omega arith))
 
 pub more-before-both : (l : Line) (count : ℕ) → l .at + count < 96 → l .at + count < l .len → count < waiting l
 more-before-both l count small less =
-    omega (arith, last-place-by (l .len) (leb 96 (l .len)) refl .2 (l .at + count) small less)
+    omega (arith, last-place (l .len) .2 (l .at + count) small less)
 
 -- two tests of an order that hold together
 same-test : (a b c d : ℕ) → (a < b → c < d) → (b ≤ a → d ≤ c) → ltb a b ≡ ltb c d
@@ -44,7 +47,7 @@ same-test a b c d if-less if-not = same-by (ltb a b) refl
 
 pub more-by-length : (l : Line) → l .at < 96 → ltb (l .at) (l .len) ≡ hasMore l
 more-by-length l small =
-    let last = last-place-by (l .len) (leb 96 (l .len)) refl in
+    let last = last-place (l .len) in
     same-test (l .at) (l .len) 0 (waiting l)
     (λ less. omega (arith, last .2 (l .at) small less))
     (λ more. omega (arith, last .1))

@@ -2,6 +2,9 @@
 -- Assumes nothing.
 use borrow.Author.Needs.{needs}
 use borrow.Author.Tests.{le-leb, lt-leb}
+use mathlib.Core.Bool.{Bool, cond}
+use mathlib.Core.Path.{ap, sym}
+use Prim.Native.Nat.{_+_}
 use Rattle.lines.proofs.listing.one_more.Statement.{statement}
 use Rattle.lines.proofs.listing.one_more.Tie as tie
 
@@ -9,10 +12,14 @@ add-result : tie.Need-add-result
 add-result c = search needs
 
 returns : tie.Need-returns
-returns c = rw (le-leb _ _ (c .if1 .taken))
+returns c =
+    let q = c .before .args .refused in
+    sym (ap (λ (t : Bool). cond t (q + 1) q) (le-leb q 16777216 (c .if1 .taken)))
 
 returns-2 : tie.Need-returns-2
-returns-2 c = rw (lt-leb _ _ (c .if1 .left))
+returns-2 c =
+    let q = c .before .args .refused in
+    sym (ap (λ (t : Bool). cond t (q + 1) q) (lt-leb q 16777216 (c .if1 .left)))
 
 pub one-more-spec : {M : Type 1} → statement M
 one-more-spec = tie.close (tie.spec add-result returns returns-2)

@@ -12,8 +12,6 @@ use Rattle.lines.proofs.Waiting.{behind-96, behind-length, more-before-
 use Rattle.lines.specs.Line.{waiting}
 use Rattle.lines.proofs.line.Line.flush.Statement.{statement}
 use Rattle.lines.proofs.line.Line.flush.Tie as tie
-use Rattle.lines.proofs.line.Line.flush.Reads as reads
-use Rattle.lines.proofs.line.Line.flush.Lts as lts
 
 abbrev Inv-loop : tie.InvT-loop
 Inv-loop output₀ self len at₀ count₀ output at count = (output ≡ written self output₀ count) × (length output ≡ length output₀) × (at ≡ self .at + count) × (count ≤ waiting self) × (count ≤ length output₀)

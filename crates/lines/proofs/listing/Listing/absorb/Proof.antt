@@ -2,7 +2,9 @@
 -- Assumes nothing.
 use borrow.Author.Needs.{needs}
 use borrow.Author.Tests.{le-leb, lt-leb}
-use mathlib.Core.Path.{ap, _∙_}
+use mathlib.Core.Path.{_≡_, ap, _∙_}
+use Prim.Native.Nat.{_≤_}
+use native.Mathlib.Omega.{arith}
 use Rattle.lines.specs.Pieces.{absorbed, refusedBy}
 use Rattle.lines.proofs.listing.Listing.absorb.Statement.{statement}
 use Rattle.lines.proofs.listing.Listing.absorb.Tie as tie
@@ -15,7 +17,11 @@ refused-by-requires c κs = search needs
 
 returns : tie.Need-returns
 unfolding absorbed
-returns c = rw (le-leb _ _ (c .before .before .if1 .taken)) (c .refused-by .ensures ∙ ap (refusedBy 10 (c .before .before .before .before .before .args .self)) (c .before .new .ensures))
+returns c =
+    let l = c .before .before .before .before .before .args .self in
+    let past : 16777216 ≤ l .pairs = omega (arith, c .before .before .if1 .taken) in
+    let told : c .refused-by .result ≡ refusedBy 10 l (c .before .new .result) = c .refused-by .ensures in
+    rw (le-leb 16777216 (l .pairs) past) (told ∙ ap (refusedBy 10 l) (c .before .new .ensures))
 
 enum-told : tie.Need-enum-told
 enum-told c = search needs
@@ -24,7 +30,7 @@ enum-known-half : tie.Need-enum-known-half
 enum-known-half c = search needs
 
 after-pair-requires : tie.Need-after-pair-requires
-after-pair-requires c κs = search needs
+after-pair-requires c κs = omega (arith, c .before .before .before .if1 .left)
 
 returns-2 : tie.Need-returns-2
 unfolding absorbed

@@ -2,7 +2,6 @@
 -- Assumes nothing.
 use borrow.Author.Needs.{needs}
 use mathlib.Core.Path.{ap, ap₂, sym, _∙_}
-use Prim.Native.Nat.{ℕ}
 use Rattle.lines.specs.Line.{putAll}
 use Rattle.lines.specs.Pieces.{afterPair, pairRead}
 use Rattle.lines.specs.Words.{eventWords, line, refusedWords}

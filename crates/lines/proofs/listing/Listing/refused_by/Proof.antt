@@ -3,7 +3,6 @@
 use borrow.Author.Needs.{needs}
 use mathlib.Core.Bool.{true}
 use mathlib.Core.Path.{ap, _∙_}
-use Prim.Native.Nat.{ℕ}
 use Rattle.lines.proofs.Puts.{chain, word, _then_}
 use Rattle.lines.specs.Pieces.{ending}
 use Rattle.lines.specs.Words.{lastLine, line, refusedWords}
