@@ -2,14 +2,14 @@
 -- tells the whole of what the call returned. The other promises equate the answer itself with its definition.
 -- Assumes nothing.
 use mathlib.Core.List.{List}
-use mathlib.Core.Path.{_≡_, ap}
+use mathlib.Core.Path.{ap}
 use Prim.Native.Nat.{ℕ}
+use Rattle.code.proofs.OneAnswer.{Told}
 use Rattle.lines.specs.Pieces.{readOutcome}
 use Rattle.lines.specs.declared.listing.Listing.{Listing}
 use Rattle.lines.specs.declared.listing.Progress.{Progress}
 
-pub read-told : (r s : Progress) (output other : List ℕ) → readOutcome r output ≡ readOutcome s other → (r ≡ s) × (output ≡ other)
-read-told r s output other e = (
-  ap {B = Progress} (λ (w : ℕ × ℕ × Listing × List ℕ). record { taken = w .0; written = w .1; listing = w .2 }) e,
-  ap (λ (w : ℕ × ℕ × Listing × List ℕ). w .3) e,
-)
+pub read-told : Told (λ (r : Progress × List ℕ). readOutcome (r .0) (r .1))
+read-told r s e =
+    ap {B = Progress × List ℕ}
+    (λ (w : ℕ × ℕ × Listing × List ℕ). (record { taken = w .0; written = w .1; listing = w .2 }, w .3)) e
