@@ -297,7 +297,7 @@ offered-first (suc k) zero xs few = absurd (omega (arith, few))
 offered-first (suc k) (suc n) [] few = absurd (omega (arith, few))
 offered-first (suc k) (suc n) (x ∷ xs) few = offered-first k n xs (omega (arith, few))
 
-no-more-than-offered : (input : List ℕ) (l : Listing) (room : ℕ) → pieceOf l input room .taken ≤ length input
+pub no-more-than-offered : (input : List ℕ) (l : Listing) (room : ℕ) → pieceOf l input room .taken ≤ length input
 no-more-than-offered [] l room = omega arith
 no-more-than-offered (a ∷ rest) l room =
     unless-stopped′ (stops l room) (no-more-than-offered rest (absorbed (withLine l (unwritten (l .line) room)) a) (room - length (writes (l .line) room)))
@@ -341,7 +341,7 @@ end-sound l = by-ended (l .ended) refl (l .half)
     by-ended false e half.Absent on = absurd (true≢false on)
     by-ended false e (half.Byte x) on = absurd (true≢false on)
 
-pub end-kept : (bytes : List ℕ) (r : Run) → (r .left ≡ []) ⊎ (r .listing .ended ≡ true) → Kept bytes r → Kept bytes (atEnd r)
+pub end-kept : (bytes : List ℕ) (r : Run) → Finished r → Kept bytes r → Kept bytes (atEnd r)
 end-kept bytes r finished k = record {
   sound = end-sound (r .listing);
   text =

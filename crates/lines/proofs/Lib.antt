@@ -3,6 +3,7 @@ pub mod Bounds
 pub mod Flushing
 pub mod OneAnswer
 pub mod Pieces
+pub mod Progress
 pub mod Puts
 pub mod Reading
 pub mod Waiting

@@ -13,7 +13,7 @@ use lib.Seq.{getD-set-other, getD-set-same}
 use Rattle.lines.specs.Line.{bytesFrom, emptyLine, pending, put, putAll, unwritten, waiting, writes}
 use Rattle.lines.specs.declared.line.Line.{Line}
 
--- a line of the 96 places that every value of the type has, with nothing written of it yet
+-- a line of the 96 places that every value of the type has, with all its bytes inside them
 pub record Begun (l : Line) : Type 0 where
   pub places : length (l .bytes) ≡ 96
   pub inside : l .len ≤ 96
