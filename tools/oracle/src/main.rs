@@ -4,6 +4,13 @@
 //!     oracle make SET QUERIES ANSWERS      writes a set's queries and the crate's answers
 //!     oracle compare QUERIES ANSWERS GOT   compares what `replay` wrote with the crate's answers
 //!
+//! And the listing's text of 01, made of the crate's events:
+//!
+//!     oracle listing INPUT OUTPUT          writes the text of a file of raw bytes
+//!     oracle streams                       the names of the sets of streams
+//!     oracle streams SET FOLDER            writes a set's streams and the text of each
+//!     oracle mix PAIRS OUTPUT              writes a stream of so many pairs, as the benchmark takes it
+//!
 //! A set that is chosen at random is made from a seed, which is printed; SEED names another one.
 //! A layer above adds its queries and sets in a module of its own, and the sets to `SETS`.
 
@@ -11,6 +18,7 @@ mod agreement;
 mod code;
 mod code_sets;
 mod event;
+mod listing;
 mod names;
 mod panics;
 mod queue;
@@ -20,16 +28,18 @@ mod receiver;
 mod sample;
 mod sender;
 mod sender_sets;
+mod streams;
 mod transcript;
 mod values;
 
 use random::{Random, SEED};
-use std::fs::{read, write};
+use std::fs::{read, write, File};
 use std::process::exit;
 use transcript::Transcript;
 use Fill::{FromSeed, Whole};
 
-const USAGE: &str = "usage: oracle sets | make SET QUERIES ANSWERS | compare QUERIES ANSWERS GOT";
+const USAGE: &str = "usage: oracle sets | make SET QUERIES ANSWERS | compare QUERIES ANSWERS GOT \
+    | listing INPUT OUTPUT | streams [SET FOLDER] | mix PAIRS OUTPUT";
 
 /// A set goes through the whole of what it asks about, or makes a choice from a seed.
 enum Fill {
@@ -64,6 +74,10 @@ fn main() {
         ["sets"] => list_sets(),
         ["make", set, queries, answers] => make(set, queries, answers),
         ["compare", queries, answers, got] => compare(queries, answers, got),
+        ["listing", input, output] => write_listing(input, output),
+        ["streams"] => list_streams(),
+        ["streams", set, folder] => make_streams(set, folder),
+        ["mix", pairs, output] => make_mix(pairs, output),
         _ => Err(USAGE.into()),
     };
     if let Err(text) = done {
@@ -112,6 +126,53 @@ fn compare(queries: &str, answers: &str, got: &str) -> Result<(), String> {
     let count = transcript.compare(&load(got)?)?;
     println!("{count} queries, no difference");
     Ok(())
+}
+
+fn write_listing(input: &str, output: &str) -> Result<(), String> {
+    streams::assert_worked_case();
+    let from = File::open(input).map_err(|error| format!("{input}: {error}"))?;
+    let to = File::create(output).map_err(|error| format!("{output}: {error}"))?;
+    listing::list(from, to).map_err(|error| format!("{input} to {output}: {error}"))
+}
+
+fn list_streams() -> Result<(), String> {
+    for (name, _) in streams::SETS {
+        println!("{name}");
+    }
+    Ok(())
+}
+
+/// A stream's bytes and its text have the same name but for what is behind the dot.
+fn make_streams(set: &str, folder: &str) -> Result<(), String> {
+    streams::assert_worked_case();
+    let (_, fill) = streams::SETS
+        .iter()
+        .find(|(name, _)| *name == set)
+        .ok_or_else(|| format!("there is no set of streams {set}"))?;
+    let streams = match fill {
+        streams::Fill::Whole(fill) => fill(),
+        streams::Fill::FromSeed(fill) => {
+            let seed = seed()?;
+            print!("from seed {seed}: ");
+            fill(&mut Random::from_seed(seed))
+        }
+    };
+    for (number, stream) in streams.iter().enumerate() {
+        save(&format!("{folder}/{number:04}.pairs"), stream)?;
+        save(
+            &format!("{folder}/{number:04}.text"),
+            &streams::text(stream),
+        )?;
+    }
+    Ok(())
+}
+
+fn make_mix(pairs: &str, output: &str) -> Result<(), String> {
+    let pairs = pairs.parse().map_err(|error| format!("{pairs}: {error}"))?;
+    save(
+        output,
+        &streams::mix(&mut Random::from_seed(seed()?), pairs),
+    )
 }
 
 fn load(path: &str) -> Result<Vec<u8>, String> {

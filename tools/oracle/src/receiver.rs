@@ -119,11 +119,7 @@ pub fn sequences(to: &mut Transcript, random: &mut Random) {
 
 pub fn sequence(receiver: &mut Receiver, random: &mut Random, length: usize) {
     receiver.reset();
-    let mut line = Line {
-        bytes: good_bytes(),
-        random,
-        sent: PADDING,
-    };
+    let mut line = Line::new(random);
     for _ in 0..length {
         let pair = line.next_pair();
         receiver.decode(pair);
@@ -131,15 +127,23 @@ pub fn sequence(receiver: &mut Receiver, random: &mut Random, length: usize) {
 }
 
 /// What a line brings: commands and their copies, text, padding, and now and then a hit.
-struct Line<'a> {
+pub struct Line<'a> {
     bytes: [u8; 128],
     random: &'a mut Random,
     /// The pair sent last, as it was before a hit.
     sent: [u8; 2],
 }
 
-impl Line<'_> {
-    fn next_pair(&mut self) -> [u8; 2] {
+impl<'a> Line<'a> {
+    pub fn new(random: &'a mut Random) -> Self {
+        Line {
+            bytes: good_bytes(),
+            random,
+            sent: PADDING,
+        }
+    }
+
+    pub fn next_pair(&mut self) -> [u8; 2] {
         self.sent = match self.random.below(20) {
             0..=6 => self.sent,
             7..=9 => self.with_field(),
