@@ -1,5 +1,5 @@
-// Lists the pairs on standard input in the format of docs/LISTING.md. A read or a write that fails is said on standard
-// error, and ends the listing with no last line.
+// Lists the pairs on standard input, one line an event, in the format of docs/LISTING.md.
+// A read or a write that fails is said on standard error, and ends the listing with no last line.
 ghost use Prim.Native.Nat.{_<_};
 ghost use lib.ListN.{length};
 use libc::STDIN_FILENO;
