@@ -2,25 +2,15 @@
 //! crate cost. A line for each says code, call, how many codes wait before it, and nanoseconds, the
 //! loop around the call included; what the loop costs alone is the call `nothing`.
 //!
-//! With the word `listing` it does not time but is timed: it lists standard input on standard output.
-//!
 //! It begins at the C library's `main`, since Rust's own beginning reads the process's memory map,
 //! and the toolchain's emulator fails on that.
 #![no_main]
-
-mod listing;
-// The listing needs a few of the crate's names and values here, and the oracle needs the rest.
-#[allow(dead_code)]
-mod names;
-#[allow(dead_code)]
-mod values;
 
 use cea608_types::tables::{
     Channel, Code, Control, ControlCode, Field, PreambleAddressCode, PreambleType,
 };
 use cea608_types::Cea608Writer;
 use std::hint::black_box;
-use std::io::{stdin, stdout};
 use std::time::{Duration, Instant};
 
 /// Reading the clock takes as long as some calls, so that a call is timed on many writers at once.
@@ -29,23 +19,6 @@ const ROUNDS: usize = 2000;
 
 #[no_mangle]
 pub extern "C" fn main() -> i32 {
-    match std::env::args().nth(1).as_deref() {
-        Some("listing") => list(),
-        _ => tell_all(),
-    }
-}
-
-fn list() -> i32 {
-    match listing::list(stdin().lock(), stdout().lock()) {
-        Ok(()) => 0,
-        Err(error) => {
-            eprintln!("{error}");
-            1
-        }
-    }
-}
-
-fn tell_all() -> i32 {
     let preamble = PreambleAddressCode::new(5, false, PreambleType::Indent0);
     let preamble = Control::PreambleAddress(preamble);
     let preamble = ControlCode::new(Field::ONE, Channel::ONE, preamble);
