@@ -1,13 +1,14 @@
 -- Which codes are written as command pairs: field, channel and parity keep a first byte of 10 to 1F in that range and any
 -- other out of it, and each row of symbols and of preambles begins with one.
 -- Assumes nothing.
-use mathlib.Core.Bool.{Bool, true, false, cond, _&&_, true≢false}
+use mathlib.Core.Bool.{Bool, true, false, cond, _&&_}
 use mathlib.Core.Path.{_≡_, refl, ap, sym, subst, _∙_}
 use Prim.Native.Nat.{ℕ, _+_, _*_, _<_}
 use native.Mathlib.Omega.{arith}
 use borrow.Author.Tests.{eqb-true, leb-true, ltb-true}
 use lib.Dec.{eqb, leb, lit<, ltb}
 use Rattle.code.proofs.Agree.{agree}
+use Rattle.code.proofs.Both.{both-left, both-right}
 use Rattle.code.proofs.Bytes.{prefixAt, preamble-plus, symbol-plus}
 use Rattle.code.proofs.Numbers.{column-back, letter-small, style-back}
 use Rattle.code.proofs.Written.{data-kept}
@@ -31,14 +32,6 @@ use Rattle.code.specs.declared.preamble.PreambleAddressCode.{PreambleAdd
 use Rattle.code.specs.declared.symbol.Symbol.{Symbol}
 use Rattle.code.specs.declared.symbol.SymbolRow.{SymbolRow}
 use Rattle.code.specs.declared.symbol.SymbolRow.the-variants.{Special, Spanish, French, Portuguese, German}
-
-both-left : (t u : Bool) → (t && u) ≡ true → t ≡ true
-both-left true u e = refl
-both-left false u e = e
-
-both-right : (t u : Bool) → (t && u) ≡ true → u ≡ true
-both-right true u e = e
-both-right false u e = absurd (true≢false (sym e))
 
 -- what is sent of a byte says command where the byte does
 parity-says : (b : ℕ) → b < 128 → isCommand (stripped (withParity b)) ≡ isCommand b

@@ -1,4 +1,5 @@
 pub mod Agree
+pub mod Both
 pub mod Bytes
 pub mod CommandCodes
 pub mod First

@@ -7,6 +7,7 @@ use native.Mathlib.Omega.{arith}
 use borrow.Author.Tests.{leb-true}
 use lib.Count.{ones, onesIn}
 use lib.Dec.{leb}
+use Rattle.code.proofs.Both.{both-true}
 use Rattle.code.proofs.Agree.{agree, agree-grid}
 use Rattle.code.specs.Outcome.{Outcome, answer, refused}
 use Rattle.code.specs.Parity.{isOdd, stripped, withParity}
@@ -44,10 +45,6 @@ command-again a b from below less =
     less
 
 -- two stripped bytes
-both-true : (s t : Bool) → s && t ≡ true → (s ≡ true) × (t ≡ true)
-both-true true t e = (refl, e)
-both-true false t e = absurd (false≢true e)
-
 command-range : (a : ℕ) → isCommand a ≡ true → (16 ≤ a) × (a < 32)
 command-range a e =
     let h = both-true (leb 0x10 a) (leb a 0x1F) e in

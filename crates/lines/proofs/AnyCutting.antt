@@ -12,12 +12,13 @@ use native.Mathlib.Omega.{arith}
 use borrow.Author.Tests.{leb-false, le-leb, lt-leb, ltb-false}
 use lib.Dec.{leb, ltb}
 use lib.ListN.{drop, length, take, take-append-drop}
+use lib.Seq.{take-all}
 use Rattle.code.specs.Outcome.{Outcome, answer, refused}
 use Rattle.code.specs.Write.{pair}
 use Rattle.code.specs.declared.pair.Pair.{Pair}
 use Rattle.event.specs.declared.event.Cea608.{Cea608}
 use Rattle.lines.proofs.Bounds.{ending-short, last-line-short, nine-short, pair-line-short, ten-short}
-use Rattle.lines.proofs.Pieces.{Begun, all-put, empty-begun, from-length, waiting-is, written-and-waiting}
+use Rattle.lines.proofs.Memory.{Begun, all-put, empty-begun, from-length, waiting-is, written-and-waiting}
 use Rattle.lines.specs.Cutting.{Cut, Finished, Run, atEnd, began, cutAll, cutOnce, halfBytes, saysYet}
 use Rattle.lines.specs.Line.{bytesFrom, emptyLine, hasMore, pending, putAll, unwritten, waiting, writes}
 use Rattle.lines.specs.Listing.{endsRefused, listFrom, listing, mostPairs, refusals}
@@ -188,11 +189,6 @@ take-short zero xs = omega arith
 take-short (suc n) [] = omega arith
 take-short (suc n) (x ∷ xs) = omega (arith, take-short n xs)
 
-take-whole : (n : ℕ) (xs : List ℕ) → length xs ≤ n → length (take n xs) ≡ length xs
-take-whole zero xs few = omega (arith, few)
-take-whole (suc n) [] few = refl
-take-whole (suc n) (x ∷ xs) few = ap suc (take-whole n xs (omega (arith, few)))
-
 writes-short : (l : Line) (room : ℕ) → length (writes l room) ≤ waiting l
 writes-short l room = omega (arith, take-short room (pending l), from-length (l .bytes) (l .at) (waiting l))
 
@@ -210,7 +206,7 @@ flushed-open l room o = record {
 all-written : (l : Line) (room : ℕ) → waiting l ≤ room → pending (unwritten l room) ≡ []
 all-written l room few =
     let n = length (writes l room) in
-    let whole : n ≡ waiting l = take-whole room (pending l) (omega (arith, few, from-length (l .bytes) (l .at) (waiting l))) ∙ from-length (l .bytes) (l .at) (waiting l) in
+    let whole : n ≡ waiting l = ap length (take-all room (pending l) (omega (arith, few, from-length (l .bytes) (l .at) (waiting l)))) ∙ from-length (l .bytes) (l .at) (waiting l) in
     let gone : waiting (unwritten l room) ≡ 0 = omega (arith, whole) in
     none-waits (unwritten l room) gone
 

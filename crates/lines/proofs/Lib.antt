@@ -1,8 +1,8 @@
 pub mod AnyCutting
 pub mod Bounds
 pub mod Flushing
+pub mod Memory
 pub mod OneAnswer
-pub mod Pieces
 pub mod Progress
 pub mod Puts
 pub mod Reading

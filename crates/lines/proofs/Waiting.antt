@@ -9,6 +9,7 @@ use borrow.Author.Tests.{le-ltb, leb-false, leb-true, lt-ltb, ltb-false, ltb-tru
 use lib.Dec.{leb, ltb}
 use lib.ListN.{getD, length, length-take}
 use lib.Seq.{length-take-le, take-all}
+use Rattle.lines.proofs.Memory.{from-length}
 use Rattle.lines.specs.Line.{bytesFrom, hasMore, pending, unwritten, waiting, writes}
 use Rattle.lines.specs.declared.line.Line.{Line}
 
@@ -53,12 +54,8 @@ more-by-length l small =
     (λ more. omega (arith, last .1))
 
 -- as many bytes as wait, and each is the line's at its place
-how-many-from : (bytes : List ℕ) (at n : ℕ) → length (bytesFrom bytes at n) ≡ n
-how-many-from bytes at zero = refl
-how-many-from bytes at (suc n) = ap suc (how-many-from bytes (at + 1) n)
-
 pub how-many : (l : Line) → length (pending l) ≡ waiting l
-how-many l = how-many-from (l .bytes) (l .at) (waiting l)
+how-many l = from-length (l .bytes) (l .at) (waiting l)
 
 byte-from : (bytes : List ℕ) (at n i : ℕ) → i < n → getD (bytesFrom bytes at n) i 0 ≡ getD bytes (at + i) 0
 byte-from bytes at zero i h = absurd (omega arith)

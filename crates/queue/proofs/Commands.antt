@@ -30,7 +30,7 @@ use Rattle.code.specs.declared.preamble.PreambleType.the-variants as style
 use Rattle.queue.proofs.Order.{pop-takes-from-the-front}
 use Rattle.queue.proofs.Pairs.{popped-command}
 use Rattle.queue.proofs.Sends.{pop-sends-what-it-took}
-use Rattle.queue.proofs.WellFormed.{both-left, both-right}
+use Rattle.code.proofs.Both.{both-left, both-right}
 use Rattle.queue.specs.Calls.{Reply, listReplies, popping, pushing, toPop, toPush}
 use Rattle.queue.specs.Good.{Fit}
 use Rattle.queue.specs.Queue.{Queued, admit, byteOf, empty, inside, isAnswer, isInside, isNul, isSingle, mayWait, pairOf, pop, queued, sent}

@@ -14,7 +14,8 @@ use Rattle.code.specs.Code.{needsBackspace}
 use Rattle.code.specs.Outcome.{Outcome, answer, refused}
 use Rattle.code.specs.Write.{inDomain}
 use Rattle.code.specs.declared.code.Code.{Code}
-use Rattle.queue.proofs.WellFormed.{both-left, both-right, one-held, stored-has-room}
+use Rattle.code.proofs.Both.{both-left, both-right}
+use Rattle.queue.proofs.WellFormed.{one-held, stored-has-room}
 use Rattle.queue.specs.Good.{Fit}
 use Rattle.queue.specs.Queue.{Queued, queued, admit, admitBy, count, empty, entered, isAnswer, isFull, isInside, isNul, isSingle, mayBeHeld, mayWait, pop, popCommand, popHeld, popSingle, popTwo, popWaiting, push}
 use Rattle.queue.specs.Ring.{allMayWait}

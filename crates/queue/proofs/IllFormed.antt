@@ -10,7 +10,7 @@ use Rattle.code.specs.Outcome.{Outcome}
 use Rattle.code.specs.declared.pair.Pair.{Pair}
 use Rattle.queue.proofs.FirstInFirstOut.{first-in-first-out, ring-answers-as-the-list}
 use Rattle.queue.proofs.Refines.{fresh-good, ill-formed-count, ill-formed-pop, ill-formed-push}
-use Rattle.queue.proofs.WellFormed.{both-left, both-right}
+use Rattle.code.proofs.Both.{both-left, both-right}
 use Rattle.queue.specs.Calls.{Call, pushing, popping, counting, resetting, Reply, toCount, toPop, toPush, toReset, History, InOrder, after, afterAll, begun, isReset, listReplies, noReset, onRing, refusal, ringAfter, ringReplies}
 use Rattle.queue.specs.Queue.{empty}
 use Rattle.queue.specs.Ring.{freshRing, wellFormed}

@@ -13,7 +13,7 @@ use Rattle.code.specs.Outcome.{Outcome, answer, refused}
 use Rattle.code.specs.Write.{inDomain}
 use Rattle.code.specs.declared.code.Code.{Code}
 use Rattle.queue.proofs.Fit.{stored-may-wait}
-use Rattle.queue.proofs.WellFormed.{both-left}
+use Rattle.code.proofs.Both.{both-left}
 use Rattle.queue.specs.Calls.{letIn}
 use Rattle.queue.specs.Queue.{Pop, Queued, admit, admitBy, entered, heldCodes, inside, isFull, isInside, isNul, isSingle, pop, popCommand, popHeld, popSingle, popTwo, popWaiting, push, queued}
 

@@ -18,7 +18,7 @@ use Rattle.code.specs.Read.{isCommand, readPair}
 use Rattle.code.specs.Write.{pair, writeCode}
 use Rattle.code.specs.declared.code.Code.{Code}
 use Rattle.code.specs.declared.pair.Pair.{Pair}
-use Rattle.queue.proofs.WellFormed.{both-left, both-right}
+use Rattle.code.proofs.Both.{both-left, both-right}
 use Rattle.queue.specs.Good.{Fit}
 use Rattle.queue.specs.Queue.{Queued, isAnswer, isInside, isNul, isSingle, mayWait, pairOf, pop, popCommand, popHeld, popSingle, popTwo, popWaiting, queued, sent}
 use Rattle.queue.specs.Ring.{allMayWait}

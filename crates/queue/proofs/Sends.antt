@@ -10,7 +10,7 @@ use borrow.Author.Tests.{eqb-true}
 use lib.Dec.{eqb}
 use Rattle.code.specs.Code.{byteLen, needsBackspace}
 use Rattle.code.specs.declared.code.Code.{Code}
-use Rattle.queue.proofs.WellFormed.{both-left}
+use Rattle.code.proofs.Both.{both-left}
 use Rattle.queue.specs.Good.{Fit}
 use Rattle.queue.specs.Queue.{isInside, isSingle, mayBeHeld, Pop, pop, popCommand, popHeld, popSingle, popTwo, popWaiting, Queued, queued}
 use Rattle.queue.specs.Sent.{pairFor}

@@ -9,6 +9,7 @@ use native.Mathlib.Omega.{arith}
 use borrow.Author.Tests.{leb-false, leb-true, le-leb, ltb-true, lt-ltb}
 use lib.Dec.{leb, lit≤, ltb}
 use lib.ListN.{length}
+use Rattle.code.proofs.Both.{both-left, both-right}
 use Rattle.code.specs.Outcome.{Outcome, answer, refused}
 use Rattle.code.specs.Write.{inDomain}
 use Rattle.code.specs.declared.code.Code.{Code}
@@ -17,14 +18,6 @@ use Rattle.queue.specs.Queue.{admit, admitBy, entered, heldCodes, isFull
 use Rattle.queue.specs.Ring.{allMayWait, codeAt, codesFrom, heldFits, heldIn, pushRing, stored, waitingIn, wellFormed}
 use Rattle.queue.specs.declared.ring.Queue.{Queue}
 use Rattle.queue.specs.declared.ring.Slot.{Slot}
-
-pub both-left : (a b : Bool) → (a && b) ≡ true → a ≡ true
-both-left true b e = refl
-both-left false b e = e
-
-pub both-right : (a b : Bool) → (a && b) ≡ true → b ≡ true
-both-right true b e = e
-both-right false b e = let z : _≡_ {A = ℕ} 0 1 = cc in absurd (omega arith)
 
 -- 12's clauses
 pub record Formed (q : Queue) : Type 0 where

@@ -8,7 +8,7 @@ use mathlib.Core.Option.{Option, none, some}
 use mathlib.Core.Path.{_≡_, refl, ap, sym, subst, _∙_}
 use lib.Dec.{eqb}
 use Rattle.code.specs.declared.pair.Pair.{Pair}
-use Rattle.queue.proofs.WellFormed.{both-right}
+use Rattle.code.proofs.Both.{both-right}
 use Rattle.queue.specs.Queue.{count}
 use Rattle.receiver.specs.Receiver.{fresh}
 use Rattle.sender.proofs.Doubled.{doubled-is-odd, queue-pairs-are-odd, sent-is-doubled}

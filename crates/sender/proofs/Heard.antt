@@ -6,6 +6,7 @@ use mathlib.Core.Bool.{Bool, true, false, cond, _&&_, true≢false}
 use mathlib.Core.List.{List, [], _∷_}
 use mathlib.Core.Option.{Option, none, some}
 use mathlib.Core.Path.{_≡_, refl, ap, ap₂, sym, subst, _∙_}
+use Rattle.code.proofs.Both.{both-true}
 use Rattle.code.proofs.Written.{read-as-command}
 use Rattle.code.specs.Outcome.{Outcome, answer, refused}
 use Rattle.code.specs.Parity.{isOdd, stripped}
@@ -24,7 +25,7 @@ use Rattle.receiver.specs.declared.state.Cea608State.{Cea608State}
 use Rattle.receiver.specs.declared.state.LastChannel.{LastChannel}
 use Rattle.receiver.specs.declared.state.LastPair.{LastPair}
 use Rattle.receiver.specs.declared.state.LastPair.the-variants as last
-use Rattle.sender.proofs.OneByOne.{both, same-is-equal, same-itself}
+use Rattle.sender.proofs.OneByOne.{same-is-equal, same-itself}
 use Rattle.sender.specs.Doubled.{doubled}
 use Rattle.sender.specs.OneByOne.{AllOdd, OneByOne, goesOn, wasSpoiled}
 use Rattle.sender.specs.OneByOne as one
@@ -76,7 +77,7 @@ Continues ps =
 
 module _ (p : Pair) (ps : List Pair) (odd : isOddPair p ≡ true) (go : Continues ps) where
   parity : (isOdd (p .0) ≡ true) × (isOdd (p .1) ≡ true)
-  parity = both (isOdd (p .0)) (isOdd (p .1)) odd
+  parity = both-true (isOdd (p .0)) (isOdd (p .1)) odd
 
   -- text arrives as it was sent, and is heard by both; the receiver holds it then
   holds-text : (h : Option Pair) (t : Bool) → wasSpoiled h p ≡ t → isCommandPair p ≡ false → Ready (cond t h none) (last.Was p)

@@ -10,6 +10,7 @@ use native.Mathlib.Omega.{arith}
 use borrow.Author.Tests.{eq-eqb, eqb-true}
 use lib.Dec.{eqb}
 use lib.ListN.{drop, getD, length, replicate, take}
+use Rattle.code.proofs.Both.{both-true}
 use Rattle.code.specs.Read.{isOddPair}
 use Rattle.code.specs.Write.{pair}
 use Rattle.code.specs.declared.pair.Pair.{Pair}
@@ -18,17 +19,12 @@ use Rattle.sender.specs.Agreement as line
 use Rattle.sender.specs.OneByOne.{AllOdd, OneByOne, goesOn, wasSpoiled}
 use Rattle.sender.specs.OneByOne as one
 
-pub both : (t u : Bool) → (t && u) ≡ true → (t ≡ true) × (u ≡ true)
-both true true e = (refl, refl)
-both true false e = absurd (true≢false (sym e))
-both false u e = absurd (true≢false (sym e))
-
 pub same-itself : (p : Pair) → samePair p p ≡ true
 same-itself p = rw (eq-eqb (p .0) (p .0) refl, eq-eqb (p .1) (p .1) refl)
 
 pub same-is-equal : (p q : Pair) → samePair p q ≡ true → p ≡ q
 same-is-equal p q e =
-    let b = both (eqb (p .0) (q .0)) (eqb (p .1) (q .1)) e in
+    let b = both-true (eqb (p .0) (q .0)) (eqb (p .1) (q .1)) e in
     ap₂ pair (eqb-true (p .0) (q .0) (b .0)) (eqb-true (p .1) (q .1) (b .1))
 
 -- a pair that parity shows is another than was sent

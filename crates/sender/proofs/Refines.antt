@@ -17,7 +17,7 @@ use Rattle.code.specs.declared.pair.Pair.{Pair}
 use Rattle.queue.proofs.Fit.{pop-fits}
 use Rattle.queue.proofs.Pairs.{popped-is-sent}
 use Rattle.queue.proofs.Refines as ring
-use Rattle.queue.proofs.WellFormed.{both-left, both-right}
+use Rattle.code.proofs.Both.{both-left, both-right}
 use Rattle.queue.specs.Good.{Fit}
 use Rattle.queue.specs.Good as of-queue
 use Rattle.queue.specs.Queue.{Queued, pop}
