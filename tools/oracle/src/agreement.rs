@@ -9,6 +9,7 @@ use crate::queue::{plain, Pushes};
 use crate::queue_sets::any_code;
 use crate::random::{Random, SEED};
 use crate::receiver::{heard, Heard, Receiver, HI, PADDING};
+use crate::rounds::Beside;
 use crate::sender::{is_command, is_odd, Asked};
 use crate::transcript::Transcript;
 use cea608_types::tables::{Channel, Code, Field};

@@ -25,6 +25,7 @@ mod queue;
 mod queue_sets;
 mod random;
 mod receiver;
+mod rounds;
 mod sample;
 mod sender;
 mod sender_sets;

@@ -5,6 +5,7 @@
 
 use crate::code::{control, written};
 use crate::names::LETTERS;
+use crate::rounds::Beside;
 use crate::transcript::Transcript;
 use crate::values::code_bytes;
 use cea608_types::tables::{Channel, Code, Control};
@@ -176,30 +177,9 @@ impl<'a> Asked<'a> {
         Asked { to, writer }
     }
 
-    pub fn push(&mut self, code: Code) {
-        let refusal = self.writer.push(code);
-        self.to.add(0x30, &code_bytes(code), &[refusal]);
-    }
-
     pub fn pop(&mut self) {
         let [first, second] = self.writer.pop();
         self.to.add(0x31, &[], &[0, first, second]);
-    }
-
-    pub fn count(&mut self) {
-        let answer = count_answer(self.writer.n_codes());
-        self.to.add(0x32, &[], &answer);
-    }
-
-    pub fn reset(&mut self) {
-        self.writer.reset();
-        self.to.add(0x33, &[], &[]);
-    }
-
-    /// Sets the queue to a state, and brings the crate's writer into the same one.
-    pub fn set_well_formed(&mut self, pieces: &Pieces) {
-        self.set(pieces);
-        self.writer.bring_to(pieces);
     }
 
     /// Sets the queue to any state.
@@ -218,6 +198,34 @@ impl<'a> Asked<'a> {
 
     pub fn read_back(&mut self, pieces: &Pieces) {
         pieces.read_back(self.to);
+    }
+}
+
+impl Beside for Asked<'_> {
+    type Pieces = Pieces;
+
+    fn push(&mut self, code: Code) {
+        let refusal = self.writer.push(code);
+        self.to.add(0x30, &code_bytes(code), &[refusal]);
+    }
+
+    fn reset(&mut self) {
+        self.writer.reset();
+        self.to.add(0x33, &[], &[]);
+    }
+
+    fn set_well_formed(&mut self, pieces: &Pieces) {
+        self.set(pieces);
+        self.writer.bring_to(pieces);
+    }
+
+    fn look(&mut self) {
+        let answer = count_answer(self.n_codes());
+        self.to.add(0x32, &[], &answer);
+    }
+
+    fn n_codes(&self) -> usize {
+        self.writer.n_codes()
     }
 }
 

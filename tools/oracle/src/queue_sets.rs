@@ -6,15 +6,11 @@ use crate::code_sets::{CHANNELS, FIELDS_OR_NONE, FLAGS};
 use crate::names::{COMMANDS, LETTERS, MID_ROW_COLOURS, STYLES, SYMBOLS, TABS};
 use crate::queue::{plain, Asked, Pieces, PLACES};
 use crate::random::{Random, SEED};
+use crate::rounds::{rounds, stretch, Beside, Steps};
 use crate::transcript::Transcript;
 use cea608_types::tables::{Code, Control};
 
-/// How many codes wait or are held when a stretch of calls turns from pushing to popping: none,
-/// few, nearly 64, 64, and some that press on against the limit.
-pub const LEVELS: [usize; 14] = [0, 0, 1, 1, 2, 2, 3, 32, 62, 63, 64, 65, 70, 80];
-
 const ROUNDS: usize = 300;
-const STRETCHES: usize = 8;
 
 /// Rounds of calls, each from a fresh queue or from a state set piece by piece with its start
 /// anywhere, so that the codes cross the ring's seam; the count is asked after every call.
@@ -24,21 +20,7 @@ pub fn calls(to: &mut Transcript, random: &mut Random) {
         push_all_and_pop(&mut asked, &codes);
     }
     refusals_change_nothing(&mut asked, random);
-    for round in 0..ROUNDS {
-        if round % 3 == 0 {
-            asked.reset();
-        } else {
-            asked.set_well_formed(&well_formed(random));
-        }
-        asked.count();
-        for _ in 0..STRETCHES {
-            let level = random.pick(&LEVELS);
-            stretch(&mut asked, random, level);
-        }
-        if round % 5 == 0 {
-            run_empty(&mut asked);
-        }
-    }
+    rounds(&mut asked, random, ROUNDS);
     asked.writer.pushes.reached_every_answer();
 }
 
@@ -110,9 +92,9 @@ fn every_three_kinds() -> Vec<Vec<Code>> {
 fn push_all_and_pop(asked: &mut Asked, codes: &[Code]) {
     for &code in codes {
         asked.push(code);
-        asked.count();
+        asked.look();
     }
-    run_empty(asked);
+    asked.run_out();
 }
 
 /// A push that is refused, NUL and a count leave the state the same in every piece.
@@ -132,40 +114,27 @@ fn refusals_change_nothing(asked: &mut Asked, random: &mut Random) {
             if waiting == PLACES {
                 asked.push(LETTERS[33]);
             }
-            asked.count();
+            asked.look();
             asked.read_back(&pieces);
         }
     }
 }
 
-/// Pushes until so many are inside, or for a while against the limit, then pops some.
-fn stretch(asked: &mut Asked, random: &mut Random, level: usize) {
-    for _ in 0..level + 8 {
-        if asked.writer.n_codes() >= level {
-            break;
-        }
-        asked.push(any_code(random));
-        asked.count();
-        if random.below(8) == 0 {
-            asked.pop();
-            asked.count();
-        }
+impl Steps for Asked<'_> {
+    fn any_well_formed(random: &mut Random) -> Pieces {
+        well_formed(random)
     }
-    for _ in 0..random.below(2 + level as u32) {
-        asked.pop();
-        asked.count();
-    }
-    if random.below(40) == 0 {
-        asked.reset();
-        asked.count();
-    }
-}
 
-/// Pops twice for each code and three times more, which is to the last code and beyond.
-fn run_empty(asked: &mut Asked) {
-    for _ in 0..=2 * asked.writer.n_codes() + 2 {
-        asked.pop();
-        asked.count();
+    fn take(&mut self, _: &mut Random) {
+        self.pop();
+    }
+
+    /// Pops twice for each code and three times more, which is to the last code and beyond.
+    fn run_out(&mut self) {
+        for _ in 0..=2 * self.n_codes() + 2 {
+            self.pop();
+            self.look();
+        }
     }
 }
 
@@ -352,9 +321,9 @@ fn break_alone(asked: &mut Asked, random: &mut Random, broken_by: impl Fn(&mut P
     asked.read_back(&broken);
     asked.set_well_formed(&good);
     asked.read_back(&good);
-    asked.count();
+    asked.look();
     asked.pop();
-    asked.count();
+    asked.look();
 }
 
 /// The same, and then a reset of such a state, which no clause refuses.
@@ -365,7 +334,7 @@ fn break_and_reset(asked: &mut Asked, random: &mut Random, broken_by: impl Fn(&m
     asked.set(&broken);
     asked.reset();
     asked.read_back(&Pieces::fresh());
-    asked.count();
+    asked.look();
     asked.pop();
 }
 
@@ -381,20 +350,20 @@ pub fn sample(to: &mut Transcript) {
         for _ in 0..3 {
             asked.pop();
         }
-        asked.count();
+        asked.look();
     }
     for _ in 0..65 {
         asked.push(h);
     }
     asked.push(Code::NUL);
-    asked.count();
+    asked.look();
     asked.reset();
-    asked.count();
+    asked.look();
     let mut random = Random::from_seed(SEED);
     for level in [3, 64] {
         asked.set_well_formed(&well_formed(&mut random));
         stretch(&mut asked, &mut random, level);
-        run_empty(&mut asked);
+        asked.run_out();
     }
     break_alone(&mut asked, &mut random, |pieces| pieces.start = 64);
 }

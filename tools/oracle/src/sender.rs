@@ -4,6 +4,7 @@
 //! a drain starts past the end of its output, and 12 as for the queue.
 
 use crate::queue::{self, count_answer, Writer, ILL_FORMED};
+use crate::rounds::Beside;
 use crate::transcript::Transcript;
 use crate::values::code_bytes;
 use cea608_types::tables::Code;
@@ -138,27 +139,14 @@ impl<'a> Asked<'a> {
         }
     }
 
-    pub fn push(&mut self, code: Code) {
-        self.met.pushes_while_owed += usize::from(self.model.owed.is_some());
-        let refusal = self.model.writer.push(code);
-        self.to.add(0x40, &code_bytes(code), &[refusal]);
-    }
-
     pub fn send(&mut self) -> [u8; 2] {
         let pair = self.model.send();
         self.to.add(0x41, &[], &[0, pair[0], pair[1]]);
         pair
     }
 
-    /// All that can be asked and changes nothing.
-    pub fn look(&mut self) {
-        self.count();
-        self.ask_idle();
-        self.read_owed(self.model.owed);
-    }
-
     fn count(&mut self) {
-        let answer = count_answer(self.model.writer.n_codes());
+        let answer = count_answer(self.n_codes());
         self.to.add(0x42, &[], &answer);
     }
 
@@ -166,12 +154,6 @@ impl<'a> Asked<'a> {
         let idle = self.model.is_idle();
         self.to.add(0x43, &[], &[0, idle.into()]);
         idle
-    }
-
-    pub fn reset(&mut self) {
-        self.model.writer.reset();
-        self.model.owed = None;
-        self.to.add(0x44, &[], &[]);
     }
 
     pub fn drain(&mut self, drain: Drain) {
@@ -197,13 +179,6 @@ impl<'a> Asked<'a> {
         self.met.drains_out_of_room += usize::from(sends == drain.room());
         let stopped_early = sends < drain.limit.min(drain.room());
         self.met.drains_to_idle += usize::from(stopped_early);
-    }
-
-    /// Sets the sender to a state, and brings the model into the same one.
-    pub fn set_well_formed(&mut self, pieces: &Pieces) {
-        self.set(pieces);
-        self.model.writer.bring_to(&pieces.queue);
-        self.model.owed = pieces.owed;
     }
 
     /// Sets the sender to any state.
@@ -249,5 +224,37 @@ impl<'a> Asked<'a> {
         } else {
             self.to.add(0x43, &[], &[ILL_FORMED]);
         }
+    }
+}
+
+impl Beside for Asked<'_> {
+    type Pieces = Pieces;
+
+    fn push(&mut self, code: Code) {
+        self.met.pushes_while_owed += usize::from(self.model.owed.is_some());
+        let refusal = self.model.writer.push(code);
+        self.to.add(0x40, &code_bytes(code), &[refusal]);
+    }
+
+    fn reset(&mut self) {
+        self.model.writer.reset();
+        self.model.owed = None;
+        self.to.add(0x44, &[], &[]);
+    }
+
+    fn set_well_formed(&mut self, pieces: &Pieces) {
+        self.set(pieces);
+        self.model.writer.bring_to(&pieces.queue);
+        self.model.owed = pieces.owed;
+    }
+
+    fn look(&mut self) {
+        self.count();
+        self.ask_idle();
+        self.read_owed(self.model.owed);
+    }
+
+    fn n_codes(&self) -> usize {
+        self.model.writer.n_codes()
     }
 }

@@ -4,14 +4,14 @@
 use crate::code::{preamble_code, with_parity};
 use crate::names::{COMMANDS, LETTERS, STYLES, SYMBOLS};
 use crate::queue::{plain, PLACES};
-use crate::queue_sets::{self, any_code, every_break, of_good_codes, short_sequences, LEVELS};
+use crate::queue_sets::{self, every_break, of_good_codes, short_sequences};
 use crate::random::{Random, SEED};
+use crate::rounds::{rounds, stretch, Beside, Steps};
 use crate::sender::{is_command, is_odd, Asked, Drain, Model, Pieces, LONGEST_OUTPUT};
 use crate::transcript::Transcript;
 use cea608_types::tables::Code;
 
 const ROUNDS: usize = 200;
-const STRETCHES: usize = 8;
 
 const LETTER: Code = LETTERS[33];
 
@@ -24,76 +24,47 @@ pub fn calls(to: &mut Transcript, random: &mut Random) {
             asked.push(code);
             asked.look();
         }
-        run_idle(&mut asked);
+        asked.run_out();
     }
     every_drain(&mut asked);
     refusals_change_nothing(&mut asked, random);
-    for round in 0..ROUNDS {
-        if round % 3 == 0 {
-            asked.reset();
-        } else {
-            asked.set_well_formed(&well_formed(random));
-        }
-        asked.look();
-        for _ in 0..STRETCHES {
-            let level = random.pick(&LEVELS);
-            stretch(&mut asked, random, level);
-        }
-        if round % 5 == 0 {
-            run_idle(&mut asked);
-        }
-    }
+    rounds(&mut asked, random, ROUNDS);
     reached_everything(&asked);
 }
 
-/// Sends until idle and twice more. By 01 a sender with n codes is idle after at most 3n + 1 sends.
-fn run_idle(asked: &mut Asked) {
-    let bound = 3 * asked.model.writer.n_codes() + 1;
-    let mut sends = 0;
-    while !asked.model.is_idle() {
-        asked.send();
-        asked.look();
-        sends += 1;
+impl Steps for Asked<'_> {
+    fn any_well_formed(random: &mut Random) -> Pieces {
+        well_formed(random)
     }
-    assert!(
-        sends <= bound,
-        "{sends} sends, where 01 has at most {bound}"
-    );
-    for _ in 0..2 {
-        asked.send();
-        asked.look();
-    }
-}
 
-/// Pushes until so many are inside, or for a while against the limit, with a send or a drain now
-/// and then, and then some of those.
-fn stretch(asked: &mut Asked, random: &mut Random, level: usize) {
-    for _ in 0..level + 8 {
-        if asked.model.writer.n_codes() >= level {
-            break;
-        }
-        asked.push(any_code(random));
-        asked.look();
-        if random.below(8) == 0 {
-            send_or_drain(asked, random);
+    /// A send, or now and then a drain.
+    fn take(&mut self, random: &mut Random) {
+        if random.below(6) == 0 {
+            self.drain(any_drain(random));
+        } else {
+            self.send();
         }
     }
-    for _ in 0..random.below(2 + level as u32) {
-        send_or_drain(asked, random);
-    }
-    if random.below(40) == 0 {
-        asked.reset();
-        asked.look();
-    }
-}
 
-fn send_or_drain(asked: &mut Asked, random: &mut Random) {
-    if random.below(6) == 0 {
-        asked.drain(any_drain(random));
-    } else {
-        asked.send();
+    /// Sends until idle and twice more. By 01 a sender with n codes is idle after at most 3n + 1
+    /// sends.
+    fn run_out(&mut self) {
+        let bound = 3 * self.n_codes() + 1;
+        let mut sends = 0;
+        while !self.model.is_idle() {
+            self.send();
+            self.look();
+            sends += 1;
+        }
+        assert!(
+            sends <= bound,
+            "{sends} sends, where 01 has at most {bound}"
+        );
+        for _ in 0..2 {
+            self.send();
+            self.look();
+        }
     }
-    asked.look();
 }
 
 /// Numbers past the end of any output, and past what fewer bytes than a `usize` has would hold.
