@@ -31,6 +31,7 @@ mod sender;
 mod sender_sets;
 mod streams;
 mod transcript;
+mod tried_by_hand;
 mod values;
 
 use random::{Random, SEED};

@@ -338,27 +338,9 @@ fn break_and_reset(asked: &mut Asked, random: &mut Random, broken_by: impl Fn(&m
     asked.pop();
 }
 
-/// 01's pairs tried by hand, and a few calls from a fixed seed.
+/// A few calls from a fixed seed.
 pub fn sample(to: &mut Transcript) {
     let mut asked = Asked::new(to);
-    let (h, i, exclamation) = (LETTERS[0x28], LETTERS[0x49], LETTERS[0x01]);
-    let a_acute = plain(SYMBOLS[16]);
-    for codes in [&[][..], &[h, a_acute], &[a_acute], &[h, i, exclamation]] {
-        for &code in codes {
-            asked.push(code);
-        }
-        for _ in 0..3 {
-            asked.pop();
-        }
-        asked.look();
-    }
-    for _ in 0..65 {
-        asked.push(h);
-    }
-    asked.push(Code::NUL);
-    asked.look();
-    asked.reset();
-    asked.look();
     let mut random = Random::from_seed(SEED);
     for level in [3, 64] {
         asked.set_well_formed(&well_formed(&mut random));

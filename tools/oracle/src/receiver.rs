@@ -73,7 +73,7 @@ impl<'a> Receiver<'a> {
 
 pub const PADDING: [u8; 2] = [0x80, 0x80];
 
-const ROLL_UP_2: [u8; 2] = [0x94, 0x25];
+pub const ROLL_UP_2: [u8; 2] = [0x94, 0x25];
 pub const HI: [u8; 2] = [0xC8, 0xE9];
 
 /// Each pair of odd parity twice, read by a fresh receiver and by one that has read a command; and once by a fresh one,

@@ -1,5 +1,5 @@
-//! The sample that is stored beside `replay`: the places where one case of the text ends and the
-//! next begins, each refusal, and some more of everything from a fixed seed.
+//! The sample that is stored beside `replay`: 01's pairs tried by hand, the places where one case of
+//! the text ends and the next begins, each refusal, and some more of everything from a fixed seed.
 
 use crate::agreement;
 use crate::code::*;
@@ -14,11 +14,13 @@ use crate::random::{Random, SEED};
 use crate::receiver::{sequence, Receiver, PADDING};
 use crate::sender_sets;
 use crate::transcript::Transcript;
+use crate::tried_by_hand::tried_by_hand;
 use cea608_types::tables::{Channel, Code, Control, Field};
 use cea608_types::Cea608;
 
 pub fn sample(to: &mut Transcript) {
     let mut random = Random::from_seed(SEED);
+    tried_by_hand(to);
     command_pairs(to);
     other_pairs(to);
     random_pairs(to, &mut random);
@@ -63,11 +65,7 @@ fn command_pairs(to: &mut Transcript) {
     }
 }
 
-const TRIED_BY_HAND: [[u8; 2]; 9] = [
-    [0x94, 0x2C],
-    [0x15, 0x2C],
-    [0x97, 0xA1],
-    [0x91, 0xAE],
+const OF_ODD_PARITY: [[u8; 2]; 5] = [
     [0x94, 0x25],
     [0x94, 0x70],
     [0xC8, 0xE9],
@@ -96,7 +94,7 @@ const STRIPPED_AND_NO_COMMAND: [[u8; 2]; 8] = [
 ];
 
 fn other_pairs(to: &mut Transcript) {
-    for pair in TRIED_BY_HAND.into_iter().chain(OF_EVEN_PARITY) {
+    for pair in OF_ODD_PARITY.into_iter().chain(OF_EVEN_PARITY) {
         read_pair(to, pair);
     }
     for stripped in STRIPPED_AND_NO_COMMAND {

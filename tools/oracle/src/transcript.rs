@@ -20,6 +20,12 @@ impl Transcript {
         self.answers.extend_from_slice(&padded(answer));
     }
 
+    /// Whether the crate's answers from this place on are these.
+    pub fn answered_since(&self, place: usize, answers: &[&[u8]]) -> bool {
+        let all: Vec<u8> = answers.iter().flat_map(|answer| padded(answer)).collect();
+        self.answers[place..] == all
+    }
+
     /// The number of queries to which `got` has the same answers, or a text on the first other one.
     pub fn compare(&self, got: &[u8]) -> Result<usize, String> {
         let count = self.queries.len() / LENGTH;
