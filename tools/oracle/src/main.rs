@@ -17,6 +17,7 @@
 mod agreement;
 mod code;
 mod code_sets;
+mod differences;
 mod event;
 mod listing;
 mod names;

@@ -1,9 +1,11 @@
-//! The sample that is stored beside `replay`: 01's pairs tried by hand, the places where one case of
-//! the text ends and the next begins, each refusal, and some more of everything from a fixed seed.
+//! The sample that is stored beside `replay`: 01's pairs tried by hand, the inputs of
+//! docs/DIFFERENCES.md, the places where one case of the text ends and the next begins, each refusal,
+//! and some more of everything from a fixed seed.
 
 use crate::agreement;
 use crate::code::*;
 use crate::code_sets::{table_characters, CHANNELS, FIELDS, FIELDS_OR_NONE, FLAGS};
+use crate::differences::differences;
 use crate::event::{
     ask_of_event, codes_of_numbers, commands, control_event, id_of_field_and_channel, id_of_value,
     mode, mode_of_command, parts, text, without_code,
@@ -21,6 +23,7 @@ use cea608_types::Cea608;
 pub fn sample(to: &mut Transcript) {
     let mut random = Random::from_seed(SEED);
     tried_by_hand(to);
+    differences(to);
     command_pairs(to);
     other_pairs(to);
     random_pairs(to, &mut random);

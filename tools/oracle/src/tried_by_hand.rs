@@ -36,7 +36,7 @@ pub fn tried_by_hand(to: &mut Transcript) {
 fn tried(to: &mut Transcript, ask: impl FnOnce(&mut Transcript), says: &[&[u8]]) {
     let before = to.answers.len();
     ask(to);
-    assert!(to.answered_since(before, says), "01 says {says:02X?}");
+    assert!(to.answered_since(before, says), "not {says:02X?}");
 }
 
 /// P: row 10 white; `Unknown`; erase for field two and for field one; tab 1; italics.
@@ -81,17 +81,22 @@ fn codes_queued(to: &mut Transcript) {
         (&[a_acute], &[[0x20, 0x80], [0x92, 0x20]]),
         (&[H, I, EXCLAMATION], &[[0xC8, 0xE9], [0xA1, 0x80]]),
     ] {
-        let sent: Vec<[u8; 3]> = pairs.iter().map(|&[a, b]| [0, a, b]).collect();
-        let mut says = vec![NOTHING];
-        says.extend(codes.iter().map(|_| ACCEPTED));
-        says.extend(sent.iter().map(|answer| &answer[..]));
-        let ask = |to: &mut Transcript| {
-            let mut asked = Asked::new(to);
-            codes.iter().for_each(|&code| asked.push(code));
-            pairs.iter().for_each(|_| asked.pop());
-        };
-        tried(to, ask, &says);
+        queued(to, codes, pairs);
     }
+}
+
+/// Codes that are pushed into a fresh queue, and the pairs that are popped.
+pub fn queued(to: &mut Transcript, codes: &[Code], pairs: &[[u8; 2]]) {
+    let sent: Vec<[u8; 3]> = pairs.iter().map(|&[a, b]| [0, a, b]).collect();
+    let mut says = vec![NOTHING];
+    says.extend(codes.iter().map(|_| ACCEPTED));
+    says.extend(sent.iter().map(|answer| &answer[..]));
+    let ask = |to: &mut Transcript| {
+        let mut asked = Asked::new(to);
+        codes.iter().for_each(|&code| asked.push(code));
+        pairs.iter().for_each(|_| asked.pop());
+    };
+    tried(to, ask, &says);
 }
 
 /// Row 14 is written, 15 refused 3.
