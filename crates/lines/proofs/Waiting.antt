@@ -10,7 +10,7 @@ use lib.Dec.{leb, ltb}
 use lib.ListN.{getD, length, length-take}
 use lib.Seq.{length-take-le, take-all}
 use Rattle.lines.proofs.Memory.{from-length}
-use Rattle.lines.specs.Line.{bytesFrom, hasMore, pending, unwritten, waiting, writes}
+use Rattle.lines.specs.Line.{bytesFrom, emptyLine, hasMore, pending, unwritten, waiting, writes}
 use Rattle.lines.specs.declared.line.Line.{Line}
 
 -- the place behind the last byte that waits: the length, but never behind the 96th
@@ -74,8 +74,14 @@ pub fits : (l : Line) (room : ℕ) → length (writes l room) ≤ room
 fits l room = omega (arith, length-take room (pending l))
 
 pub left-where-more : (l : Line) (room : ℕ) → hasMore (unwritten l room) ≡ ltb room (waiting l)
-left-where-more l room =
-    sym
-    (same-test room (waiting l) 0 (waiting (unwritten l room))
-    (λ more. omega (arith, length-take-le room (pending l) (omega (arith, how-many l))))
-    (λ enough. omega (arith, how-many l, ap length (take-all room (pending l) (omega (arith, how-many l))))))
+left-where-more l room = by-room (ltb room (waiting l)) refl
+  where
+    by-room : (t : Bool) → ltb room (waiting l) ≡ t → hasMore (cond t (record { bytes = l .bytes; at = l .at + room; len = l .len }) emptyLine) ≡ t
+    by-room true more = lt-ltb 0 (waiting (record { bytes = l .bytes; at = l .at + room; len = l .len })) (omega (arith, ltb-true room (waiting l) more))
+    by-room false none = refl
+
+pub empty-where-no-more : (l : Line) (room : ℕ) → ltb room (waiting l) ≡ false → unwritten l room ≡ emptyLine
+empty-where-no-more l room none = rw none refl
+
+pub nothing-waits : (room : ℕ) → ltb room (waiting emptyLine) ≡ false
+nothing-waits room = le-ltb room 0 (omega arith)

@@ -1,3 +1,4 @@
+pub mod Put
 pub mod Words
 pub mod Listing
 pub mod Line

@@ -1,15 +1,16 @@
 -- The listing in pieces: what a state says yet, what a byte does to it, and how much input is taken and text written where
 -- there is so much of either. Any state may be handed in; one that no call leaves is listed as it stands.
-use Prim.Native.Nat.{ℕ, _+_, _-_}
+use Prim.Native.Nat.{ℕ, _+_, _-_, _≤_}
 use mathlib.Core.Bool.{Bool, true, false, cond, _&&_, not}
 use mathlib.Core.List.{List, [], _∷_, _++_}
 use mathlib.Core.Option.{Option}
+use mathlib.Core.Path.{_≡_}
 use lib.Dec.{leb, ltb}
-use lib.ListN.{length}
+use lib.ListN.{drop, length, take}
 use Rattle.code.specs.Outcome.{Outcome, answer, refused}
 use Rattle.code.specs.Write.{pair}
 use Rattle.event.specs.declared.event.Cea608.{Cea608}
-use Rattle.lines.specs.Line.{emptyLine, hasMore, over, putAll, unwritten, waiting, writes}
+use Rattle.lines.specs.Line.{emptyLine, hasMore, over, says, unwritten, waiting, writes}
 use Rattle.lines.specs.Listing.{mostPairs}
 use Rattle.lines.specs.Words.{lastLine, line, lineOf, refusedWords}
 use Rattle.lines.specs.declared.line.Line.{Line}
@@ -39,7 +40,7 @@ ending l begun words q = record {
   pairs = l .pairs;
   refused = q;
   ended = true;
-  line = putAll begun (words ++ lastLine (l .pairs) q);
+  line = says begun (words ++ lastLine (l .pairs) q);
 }
 
 abbrev pub refusedBy : ℕ → Listing → Line → Listing
@@ -55,18 +56,16 @@ withHalf l a = record {
   line = l .line;
 }
 
-abbrev pub pairRead : Listing → Cea608State → ℕ → Line → Listing
-pairRead l receiver q x = record {
-  receiver = receiver;
+-- the line of a pair waits
+abbrev pub afterPair : Listing → Stepped → Listing
+afterPair l r = record {
+  receiver = r .1;
   half = half.Absent;
   pairs = l .pairs + 1;
-  refused = q;
+  refused = counted (r .0) (l .refused);
   ended = l .ended;
-  line = x;
+  line = says emptyLine (lineOf (l .pairs) (r .0));
 }
-
-abbrev pub afterPair : Listing → Stepped → Listing
-afterPair l r = pairRead l (r .1) (counted (r .0) (l .refused)) (putAll emptyLine (lineOf (l .pairs) (r .0)))
 
 abbrev pub withByte : Listing → Half → ℕ → Listing
 withByte l half.Absent a = withHalf l a
@@ -123,6 +122,24 @@ readAs p output = (p .taken, length (p .text), p .next, over (p .text) output)
 
 unfoldable pub readListing : Listing → List ℕ → List ℕ → ℕ × ℕ × Listing × List ℕ
 readListing l input output = readAs (pieceOf l input (length output)) output
+
+-- the same on the way: what the reading comes to from a state, with so much taken and written already
+abbrev pub Read : Type 0
+Read = ℕ × ℕ × Listing × List ℕ
+
+abbrev pub onceRead : ℕ → ℕ → List ℕ → Piece → Read
+onceRead taken written output p = (taken + p .taken, written + length (p .text), p .next, take written output ++ over (p .text) (drop written output))
+
+abbrev pub comesTo : List ℕ → ℕ → Listing → List ℕ → ℕ → Read
+comesTo input taken l output written = onceRead taken written output (pieceOf l (drop taken input) (length output - written))
+
+-- between two lines: nothing waits, the stream goes on, and the places are inside
+abbrev pub Between : List ℕ → ℕ → Listing → List ℕ → ℕ → Type 0
+Between input taken l output written = (l .line ≡ emptyLine) × (l .ended ≡ false) × (taken ≤ length input) × (written ≤ length output)
+
+-- further on in the same reading
+abbrev pub Further : List ℕ → ℕ → Listing → List ℕ → ℕ → Progress → List ℕ → Type 0
+Further input taken l output written r after = (comesTo input (r .taken) (r .listing) after (r .written) ≡ comesTo input taken l output written) × (length after ≡ length output) × (taken ≤ r .taken) × Between input (r .taken) (r .listing) after (r .written)
 
 -- nothing more will come
 abbrev pub isDone : Listing → Bool
