@@ -25,7 +25,7 @@ use Rattle.code.specs.declared.pair.Pair.{Pair}
 use Rattle.receiver.proofs.Step.{even-is-refused-1, odd-is-not-refused}
 use Rattle.receiver.specs.Receiver.{Stepped, step}
 use Rattle.receiver.specs.declared.state.Cea608State.{Cea608State}
-use Rattle.lines.specs.Words.{atPlace, atPlaces, channelDigit, characterWord, decimal, eventWords, flagDigit, hex, lastLine, line, lineOf, modeWord, refusedWords}
+use Rattle.lines.specs.Words.{atPlace, atPlaces, characterWord, decimal, eventWords, flagDigit, lastLine, line, lineOf, modeWord, refusedWords}
 
 one-digit : (t : Bool) (d : ℕ) → length (cond t (d ∷ []) []) ≤ 1
 one-digit true d = omega arith

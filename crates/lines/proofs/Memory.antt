@@ -8,7 +8,7 @@ use Prim.Native.Nat.{ℕ, zero, suc, _+_, _-_, _≤_, _<_}
 use native.Mathlib.Omega.{arith}
 use borrow.Author.Tests.{ltb-false, ltb-true}
 use lib.Dec.{leb, ltb}
-use lib.ListN.{getD, length, length-set, replicate, set, take}
+use lib.ListN.{getD, length, length-set, set, take}
 use lib.Seq.{getD-set-other, getD-set-same, take-all}
 use Rattle.lines.proofs.Puts.{put-as}
 use Rattle.lines.specs.Line.{bytesFrom, emptyLine, pending, says, unwritten, waiting, writes}

@@ -12,7 +12,8 @@ use lib.ListN.{drop, drop-of-length-le, getD, length, length-append, length-drop
 use lib.Seq.{drop-at, drop-cons, drop-drop, length-front, length-take-le, take-all, take-at, take-nil}
 use Rattle.lines.proofs.Waiting.{empty-where-no-more, fits, left-where-more, nothing-waits}
 use Rattle.lines.specs.Line.{emptyLine, flushOutcome, flushed, hasMore, over, unwritten, waiting, writes}
-use Rattle.lines.specs.Pieces.{Piece, Read, absorbed, behind, comesTo, flushedOnly, onceRead, pieceOf, readListing, stops, withLine}
+use Rattle.lines.specs.Midway.{comesTo, onceRead}
+use Rattle.lines.specs.Pieces.{Piece, Read, absorbed, behind, flushedOnly, pieceOf, readListing, stops, withLine}
 use Rattle.lines.specs.declared.line.Flushed.{Flushed}
 use Rattle.lines.specs.declared.line.Line.{Line}
 use Rattle.lines.specs.declared.listing.Listing.{Listing}

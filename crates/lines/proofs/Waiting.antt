@@ -8,7 +8,6 @@ use native.Mathlib.Omega.{arith}
 use borrow.Author.Tests.{le-ltb, leb-false, leb-true, lt-ltb, ltb-false, ltb-true}
 use lib.Dec.{leb, ltb}
 use lib.ListN.{getD, length, length-append, length-take}
-use lib.Seq.{length-take-le, take-all}
 use Rattle.lines.proofs.Memory.{from-length, written-and-waiting}
 use Rattle.lines.specs.Line.{bytesFrom, emptyLine, hasMore, pending, unwritten, waiting, writes}
 use Rattle.lines.specs.declared.line.Line.{Line}

@@ -1,13 +1,13 @@
 -- A whole pair between two lines: its line goes straight into the output, where there is room for any line, and the reading
 -- comes to the same as byte by byte.
 -- Assumes nothing.
-use mathlib.Core.Bool.{Bool, false, cond}
-use mathlib.Core.List.{List, _++_, append-nil}
+use mathlib.Core.Bool.{Bool, false}
+use mathlib.Core.List.{List, _++_}
 use mathlib.Core.Path.{_≡_, refl, ap, ap₂, sym, _∙_}
 use Prim.Native.Nat.{ℕ, _+_, _-_, _≤_, _<_}
 use native.Mathlib.Omega.{arith}
 use borrow.Author.Tests.{le-ltb, lt-leb}
-use lib.Dec.{leb, ltb}
+use lib.Dec.{ltb}
 use lib.ListN.{drop, getD, length, take}
 use lib.Seq.{take-all}
 use Rattle.code.specs.Write.{pair}
@@ -16,9 +16,10 @@ use Rattle.lines.proofs.Memory.{all-said, empty-begun}
 use Rattle.lines.proofs.Puts.{all-places, puts-length}
 use Rattle.lines.proofs.Reading.{byte-taken, goes-on}
 use Rattle.lines.proofs.Waiting.{how-many}
-use Rattle.lines.specs.Line.{emptyLine, over, pending, says, waiting, writes}
+use Rattle.lines.specs.Line.{emptyLine, over, pending, waiting, writes}
 use Rattle.lines.specs.Listing.{mostPairs}
-use Rattle.lines.specs.Pieces.{absorbed, afterPair, comesTo, counted, withHalf, withLine}
+use Rattle.lines.specs.Midway.{comesTo}
+use Rattle.lines.specs.Pieces.{absorbed, afterPair, betweenPairs, counted, withHalf, withLine}
 use Rattle.lines.specs.Put.{Placed, putAll}
 use Rattle.lines.specs.Words.{lineOf}
 use Rattle.lines.specs.declared.line.Line.{Line}
@@ -28,20 +29,16 @@ use Rattle.lines.specs.declared.listing.Listing.{Listing}
 use Rattle.receiver.specs.Receiver.{Stepped, step}
 use Rattle.receiver.specs.declared.state.Cea608State.{Cea608State}
 
--- the state between two lines and two pairs
-abbrev pub going : Cea608State → ℕ → ℕ → Listing
-going s k q = record { receiver = s; half = half.Absent; pairs = k; refused = q; ended = false; line = emptyLine }
-
-pub as-going : (l : Listing) → l .half ≡ half.Absent → l .ended ≡ false → l .line ≡ emptyLine → l ≡ going (l .receiver) (l .pairs) (l .refused)
-as-going l whole on empty =
+pub as-between-pairs : (l : Listing) → l .half ≡ half.Absent → l .ended ≡ false → l .line ≡ emptyLine → l ≡ betweenPairs (l .receiver) (l .pairs) (l .refused)
+as-between-pairs l whole on empty =
     ap {B = Listing} (λ (h : Half). record { receiver = l .receiver; half = h; pairs = l .pairs; refused = l .refused; ended = l .ended; line = l .line }) whole
     ∙ ap₂ {C = Listing} (λ (t : Bool) (x : Line). record { receiver = l .receiver; half = half.Absent; pairs = l .pairs; refused = l .refused; ended = t; line = x }) on empty
 
-first-byte : (s : Cea608State) (k q a : ℕ) → k < mostPairs → absorbed (going s k q) a ≡ withHalf (going s k q) a
+first-byte : (s : Cea608State) (k q a : ℕ) → k < mostPairs → absorbed (betweenPairs s k q) a ≡ withHalf (betweenPairs s k q) a
 unfolding absorbed
 first-byte s k q a less = rw (lt-leb mostPairs k less) refl
 
-second-byte : (s : Cea608State) (k q a b : ℕ) → k < mostPairs → absorbed (withHalf (going s k q) a) b ≡ afterPair (going s k q) (step s (pair a b))
+second-byte : (s : Cea608State) (k q a b : ℕ) → k < mostPairs → absorbed (withHalf (betweenPairs s k q) a) b ≡ afterPair (betweenPairs s k q) (step s (pair a b))
 unfolding absorbed
 second-byte s k q a b less = rw (lt-leb mostPairs k less) refl
 
@@ -56,7 +53,7 @@ module _ (input : List ℕ) (taken : ℕ) (s : Cea608State) (k q : ℕ) (output 
   short = pair-fits s (pair (getD input taken 0) (getD input (taken + 1) 0)) k less
 
   abbrev after : Listing
-  after = afterPair (going s k q) heard
+  after = afterPair (betweenPairs s k q) heard
 
   waits : pending (after .line) ≡ w
   waits = all-said w emptyLine empty-begun (omega arith) (omega (arith, short)) .waits
@@ -67,16 +64,16 @@ module _ (input : List ℕ) (taken : ℕ) (s : Cea608State) (k q : ℕ) (output 
   said-is : writes (after .line) (length output - written) ≡ w
   said-is = ap (take (length output - written)) waits ∙ take-all (length output - written) w (omega (arith, short, room))
 
-  both-taken : comesTo input (taken + 2) after output written ≡ comesTo input taken (going s k q) output written
+  both-taken : comesTo input (taken + 2) after output written ≡ comesTo input taken (betweenPairs s k q) output written
   both-taken =
       let two : taken + 2 ≡ taken + 1 + 1 = omega arith in
       let a = getD input taken 0 in
       let b = getD input (taken + 1) 0 in
       ap (λ (n : ℕ). comesTo input n after output written) two
-      ∙ byte-taken input (taken + 1) (withHalf (going s k q) a) output written (omega (arith, whole)) refl refl after (sym (second-byte s k q a b less))
-      ∙ byte-taken input taken (going s k q) output written (omega (arith, whole)) refl refl (withHalf (going s k q) a) (sym (first-byte s k q a less))
+      ∙ byte-taken input (taken + 1) (withHalf (betweenPairs s k q) a) output written (omega (arith, whole)) refl refl after (sym (second-byte s k q a b less))
+      ∙ byte-taken input taken (betweenPairs s k q) output written (omega (arith, whole)) refl refl (withHalf (betweenPairs s k q) a) (sym (first-byte s k q a less))
 
-  straight : (next : Placed) → next ≡ putAll (written, output) w → comesTo input (taken + 2) (going (heard .1) (k + 1) (counted (heard .0) q)) (next .1) (next .0) ≡ comesTo input taken (going s k q) output written
+  straight : (next : Placed) → next ≡ putAll (written, output) w → comesTo input (taken + 2) (betweenPairs (heard .1) (k + 1) (counted (heard .0) q)) (next .1) (next .0) ≡ comesTo input taken (betweenPairs s k q) output written
   straight next put =
       let placed = put ∙ all-places w written output (omega (arith, short, room)) in
       let quiet : ltb (length output - written) (waiting (after .line)) ≡ false = le-ltb (length output - written) (waiting (after .line)) (omega (arith, how-much, short, room)) in
@@ -90,10 +87,10 @@ module _ (input : List ℕ) (taken : ℕ) (s : Cea608State) (k q : ℕ) (output 
     line-put : next ≡ putAll (written, output) w
     line-put = put ∙ ap (λ (r : Stepped). putAll (written, output) (lineOf k (r .0))) found
 
-    pub pair-taken : (n : ℕ) → n ≡ counted (told .0) q → comesTo input (taken + 2) (going (told .1) (k + 1) n) (next .1) (next .0) ≡ comesTo input taken (going s k q) output written
+    pub pair-taken : (n : ℕ) → n ≡ counted (told .0) q → comesTo input (taken + 2) (betweenPairs (told .1) (k + 1) n) (next .1) (next .0) ≡ comesTo input taken (betweenPairs s k q) output written
     pair-taken n refusals =
-        ap (λ (m : ℕ). comesTo input (taken + 2) (going (told .1) (k + 1) m) (next .1) (next .0)) refusals
-        ∙ ap (λ (r : Stepped). comesTo input (taken + 2) (going (r .1) (k + 1) (counted (r .0) q)) (next .1) (next .0)) found
+        ap (λ (m : ℕ). comesTo input (taken + 2) (betweenPairs (told .1) (k + 1) m) (next .1) (next .0)) refusals
+        ∙ ap (λ (r : Stepped). comesTo input (taken + 2) (betweenPairs (r .1) (k + 1) (counted (r .0) q)) (next .1) (next .0)) found
         ∙ straight next line-put
 
     -- the memory is as long as it was, and the place inside it

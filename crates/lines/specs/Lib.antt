@@ -4,3 +4,4 @@ pub mod Listing
 pub mod Line
 pub mod Pieces
 pub mod Cutting
+pub mod Midway

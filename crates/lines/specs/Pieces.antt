@@ -1,12 +1,11 @@
 -- The listing in pieces: what a state says yet, what a byte does to it, and how much input is taken and text written where
 -- there is so much of either. Any state may be handed in; one that no call leaves is listed as it stands.
-use Prim.Native.Nat.{ℕ, _+_, _-_, _≤_}
-use mathlib.Core.Bool.{Bool, true, false, cond, _&&_, not}
+use Prim.Native.Nat.{ℕ, _+_, _-_}
+use mathlib.Core.Bool.{Bool, true, false, cond}
 use mathlib.Core.List.{List, [], _∷_, _++_}
 use mathlib.Core.Option.{Option}
-use mathlib.Core.Path.{_≡_}
 use lib.Dec.{leb, ltb}
-use lib.ListN.{drop, length, take}
+use lib.ListN.{length}
 use Rattle.code.specs.Outcome.{Outcome, answer, refused}
 use Rattle.code.specs.Write.{pair}
 use Rattle.event.specs.declared.event.Cea608.{Cea608}
@@ -21,8 +20,12 @@ use Rattle.lines.specs.declared.listing.Progress.{Progress}
 use Rattle.receiver.specs.Receiver.{Stepped, fresh, step}
 use Rattle.receiver.specs.declared.state.Cea608State.{Cea608State}
 
+-- between two pairs, with nothing that waits
+abbrev pub betweenPairs : Cea608State → ℕ → ℕ → Listing
+betweenPairs s k q = record { receiver = s; half = half.Absent; pairs = k; refused = q; ended = false; line = emptyLine }
+
 abbrev pub freshListing : Listing
-freshListing = record { receiver = fresh; half = half.Absent; pairs = 0; refused = 0; ended = false; line = emptyLine }
+freshListing = betweenPairs fresh 0 0
 
 -- one refusal more. More than one behind the limit of pairs there cannot be.
 abbrev pub oneMore : ℕ → ℕ
@@ -114,32 +117,18 @@ pieceOf l (a ∷ rest) room =
     cond (stops l room) (flushedOnly l room)
     (behind (writes (l .line) room) (pieceOf (absorbed (withLine l (unwritten (l .line) room)) a) rest (room - length (writes (l .line) room))))
 
-abbrev pub readOutcome : Progress → List ℕ → ℕ × ℕ × Listing × List ℕ
-readOutcome r output = (r .taken, r .written, r .listing, output)
-
-abbrev pub readAs : Piece → List ℕ → ℕ × ℕ × Listing × List ℕ
-readAs p output = (p .taken, length (p .text), p .next, over (p .text) output)
-
-unfoldable pub readListing : Listing → List ℕ → List ℕ → ℕ × ℕ × Listing × List ℕ
-readListing l input output = readAs (pieceOf l input (length output)) output
-
--- the same on the way: what the reading comes to from a state, with so much taken and written already
+-- how many bytes were taken and written, the state, and the output
 abbrev pub Read : Type 0
 Read = ℕ × ℕ × Listing × List ℕ
 
-abbrev pub onceRead : ℕ → ℕ → List ℕ → Piece → Read
-onceRead taken written output p = (taken + p .taken, written + length (p .text), p .next, take written output ++ over (p .text) (drop written output))
+abbrev pub readOutcome : Progress → List ℕ → Read
+readOutcome r output = (r .taken, r .written, r .listing, output)
 
-abbrev pub comesTo : List ℕ → ℕ → Listing → List ℕ → ℕ → Read
-comesTo input taken l output written = onceRead taken written output (pieceOf l (drop taken input) (length output - written))
+abbrev pub readAs : Piece → List ℕ → Read
+readAs p output = (p .taken, length (p .text), p .next, over (p .text) output)
 
--- between two lines: nothing waits, the stream goes on, and the places are inside
-abbrev pub Between : List ℕ → ℕ → Listing → List ℕ → ℕ → Type 0
-Between input taken l output written = (l .line ≡ emptyLine) × (l .ended ≡ false) × (taken ≤ length input) × (written ≤ length output)
-
--- further on in the same reading
-abbrev pub Further : List ℕ → ℕ → Listing → List ℕ → ℕ → Progress → List ℕ → Type 0
-Further input taken l output written r after = (comesTo input (r .taken) (r .listing) after (r .written) ≡ comesTo input taken l output written) × (length after ≡ length output) × (taken ≤ r .taken) × Between input (r .taken) (r .listing) after (r .written)
+unfoldable pub readListing : Listing → List ℕ → List ℕ → Read
+readListing l input output = readAs (pieceOf l input (length output)) output
 
 -- nothing more will come
 abbrev pub isDone : Listing → Bool

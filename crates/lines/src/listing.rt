@@ -1,7 +1,8 @@
 // The listing's state, and what a piece of input does to it.
 ghost use mathlib.Core.Path.{_≡_};
 ghost use Prim.Native.Nat.{_<_};
-ghost use Rattle.lines.specs.Pieces.{Between, Further, absorbed, afterPair, counted, endedListing, freshListing, isDone, oneMore, readListing, readOutcome, refusedBy, withLine};
+ghost use Rattle.lines.specs.Midway.{Between, Further};
+ghost use Rattle.lines.specs.Pieces.{absorbed, afterPair, betweenPairs, counted, endedListing, freshListing, isDone, oneMore, readListing, readOutcome, refusedBy, withLine};
 ghost use Rattle.receiver.specs.Heard.{heardOutcome};
 ghost use Rattle.receiver.specs.Receiver.{step};
 use crate::line::Line;
@@ -56,19 +57,26 @@ pub(crate) fn count_refusal(refused: u32, heard: Heard) -> u32
     }
 }
 
+// The listing between two pairs, with nothing that waits.
+pub(crate) fn between_pairs(receiver: Cea608State, pairs: u32, refused: u32) -> Listing
+    ensures { λ r. ⌜ r ≡ betweenPairs receiver pairs refused ⌝ }
+{
+    Listing {
+        receiver: receiver,
+        half: Half::Absent,
+        pairs: pairs,
+        refused: refused,
+        ended: false,
+        line: Line::new(),
+    }
+}
+
 impl Listing {
     // Nothing read yet.
     pub fn new() -> Listing
         ensures { λ r. ⌜ r ≡ freshListing ⌝ }
     {
-        Listing {
-            receiver: Cea608State::new(),
-            half: Half::Absent,
-            pairs: 0,
-            refused: 0,
-            ended: false,
-            line: Line::new(),
-        }
+        between_pairs(Cea608State::new(), 0, 0)
     }
 
     // The stream ends with a refusal by this number, behind what the line has.
@@ -215,15 +223,9 @@ impl Listing {
 
     // Takes whole pairs and writes their lines straight into the output, as long as there is room for any line. Nothing
     // waits before it or behind it.
-    pub(crate) fn read_pairs(
-        self,
-        input: &[u8],
-        from: usize,
-        output: &mut [u8],
-        at: usize,
-    ) -> Progress
-        requires { ⌜ Between (now input) from self (now output) at ⌝ }
-        ensures { λ r. ⌜ Further (now (input .entry)) from self (now (output .entry)) at r (now (output .exit)) ⌝ }
+    pub(crate) fn read_pairs(self, input: &[u8], from: usize, out: &mut [u8], at: usize) -> Progress
+        requires { ⌜ Between (now input) from self (now out) at ⌝ }
+        ensures { λ r. ⌜ Further (now (input .entry)) from self (now (out .entry)) at r (now (out .exit)) ⌝ }
     {
         let half = self.half;
         let mut receiver = self.receiver;
@@ -241,11 +243,11 @@ impl Listing {
                 };
             }
         }
-        while 2 <= input.len() - taken && 96 <= output.len() - written && pairs < 16_777_216 {
+        while 2 <= input.len() - taken && 96 <= out.len() - written && pairs < 16_777_216 {
             let decoded = receiver.decode(Pair(input[taken], input[taken + 1]));
             let next = decoded.state;
             let answer = decoded.answer;
-            written = put_line_of(output, written, pairs, answer);
+            written = put_line_of(out, written, pairs, answer);
             refused = count_refusal(refused, answer);
             receiver = next;
             pairs += 1;
@@ -254,14 +256,7 @@ impl Listing {
         Progress {
             taken: taken,
             written: written,
-            listing: Listing {
-                receiver: receiver,
-                half: Half::Absent,
-                pairs: pairs,
-                refused: refused,
-                ended: false,
-                line: Line::new(),
-            },
+            listing: between_pairs(receiver, pairs, refused),
         }
     }
 
@@ -278,14 +273,7 @@ impl Listing {
             let rest = flushed.line;
             written += flushed.count;
             listing = listing.with_line(rest);
-            if rest.has_more() {
-                return Progress {
-                    taken: taken,
-                    written: written,
-                    listing: listing,
-                };
-            }
-            if listing.ended {
+            if rest.has_more() || listing.ended {
                 return Progress {
                     taken: taken,
                     written: written,

@@ -2,16 +2,15 @@
 -- that a line has.
 -- Assumes nothing.
 use mathlib.Core.Bool.{Bool, true, false, cond}
-use mathlib.Core.List.{List, [], _∷_, _++_}
+use mathlib.Core.List.{List, [], _∷_}
 use mathlib.Core.Path.{_≡_, ap, _∙_}
-use Prim.Native.Nat.{ℕ, suc, _+_, _-_, _*_, _≤_, _<_}
+use Prim.Native.Nat.{ℕ, _+_, _-_, _*_, _≤_, _<_}
 use native.Mathlib.Omega.{arith}
 use lib.ListN.{drop, length, length-append, length-drop, take}
 use lib.Seq.{length-take-le}
 use Rattle.lines.proofs.Waiting.{behind-96, fits, written-and-left}
 use Rattle.lines.specs.Line.{unwritten, waiting, writes}
 use Rattle.lines.specs.Pieces.{Piece, absorbed, behind, flushedOnly, pieceOf, readListing, readOutcome, stops, withLine}
-use Rattle.lines.specs.declared.line.Line.{Line}
 use Rattle.lines.specs.declared.listing.Listing.{Listing}
 use Rattle.lines.specs.declared.listing.Progress.{Progress}
 

@@ -2,15 +2,14 @@
 -- to at the start (`Reading`), with the places inside the input and the output. The measure is what is left of the input.
 -- Assumes nothing.
 use borrow.Author.Needs.{needs}
-use mathlib.Core.Path.{_≡_, refl, ap, sym, _∙_}
+use mathlib.Core.Logic.{⊎-elim}
+use mathlib.Core.Path.{_≡_, refl, sym, _∙_}
 use Prim.Native.Nat.{_-_, _≤_}
 use native.Mathlib.Omega.{arith}
-use lib.ListN.{getD, length}
+use lib.ListN.{length}
 use Rattle.lines.proofs.Reading.{at-end, back-length, begun, byte-taken, count-fits, flushed-on, line-is-empty, stays-inside, where-ended, where-more-is-left}
-use Rattle.lines.specs.Line.{emptyLine}
-use Rattle.lines.specs.Pieces.{absorbed, comesTo, readListing, withLine}
-use Rattle.lines.specs.declared.line.Line.{Line}
-use Rattle.lines.specs.declared.listing.Listing.{Listing}
+use Rattle.lines.specs.Midway.{comesTo}
+use Rattle.lines.specs.Pieces.{readListing}
 use Rattle.lines.proofs.listing.Listing.read.Statement.{statement}
 use Rattle.lines.proofs.listing.Listing.read.Tie as tie
 
@@ -49,16 +48,11 @@ same-length c = search needs
 
 returns : tie.Need-returns Inv-loop μ-loop
 returns c =
-    where-more-is-left (c .before .before .before .before .before .before .before .before .before .before .before .loop .listing) (c .before .before .before .before .before .before .before .before .before .before .before .loop .output) (c .before .before .before .before .before .before .before .before .before .before .before .loop .written) (c .before .before .before .before .before .before .before .before .before .before .before .loop .inv .3) _ _ (c .before .before .before .before .before .before .before .flush .ensures) _ (c .before .before .before .before .before .before .before .before .before .before .before .loop .taken) _ (c .before .before .before .before .before .before .before .before .before .before .loop-test .taken) (c .before .before .with-line .ensures) (sym (c .before .has-more .ensures) ∙ c .if1 .taken)
+    ⊎-elim
+    (λ more. where-more-is-left (c .before .before .before .before .before .before .before .before .before .before .before .loop .listing) (c .before .before .before .before .before .before .before .before .before .before .before .loop .output) (c .before .before .before .before .before .before .before .before .before .before .before .loop .written) (c .before .before .before .before .before .before .before .before .before .before .before .loop .inv .3) _ _ (c .before .before .before .before .before .before .before .flush .ensures) _ (c .before .before .before .before .before .before .before .before .before .before .before .loop .taken) _ (c .before .before .before .before .before .before .before .before .before .before .loop-test .taken) (c .before .before .with-line .ensures) (sym (c .before .has-more .ensures) ∙ more .taken))
+    (λ ended. where-ended (c .before .before .before .before .before .before .before .before .before .before .before .loop .listing) (c .before .before .before .before .before .before .before .before .before .before .before .loop .output) (c .before .before .before .before .before .before .before .before .before .before .before .loop .written) (c .before .before .before .before .before .before .before .before .before .before .before .loop .inv .3) _ _ (c .before .before .before .before .before .before .before .flush .ensures) _ (c .before .before .before .before .before .before .before .before .before .before .before .loop .taken) _ (c .before .before .before .before .before .before .before .before .before .before .loop-test .taken) (c .before .before .with-line .ensures) (ended .1 .taken))
+    (c .if1 .came)
     ∙ c .before .before .before .before .before .before .before .before .before .before .before .loop .inv .0
-
-same-length-2 : tie.Need-same-length-2 Inv-loop μ-loop
-same-length-2 c = search needs
-
-returns-2 : tie.Need-returns-2 Inv-loop μ-loop
-returns-2 c =
-    where-ended (c .before .before .before .before .before .before .before .before .before .before .before .before .loop .listing) (c .before .before .before .before .before .before .before .before .before .before .before .before .loop .output) (c .before .before .before .before .before .before .before .before .before .before .before .before .loop .written) (c .before .before .before .before .before .before .before .before .before .before .before .before .loop .inv .3) _ _ (c .before .before .before .before .before .before .before .before .flush .ensures) _ (c .before .before .before .before .before .before .before .before .before .before .before .before .loop .taken) _ (c .before .before .before .before .before .before .before .before .before .before .before .loop-test .taken) (c .before .before .before .with-line .ensures) (c .if2 .taken)
-    ∙ c .before .before .before .before .before .before .before .before .before .before .before .before .loop .inv .0
 
 read-pairs-requires : tie.Need-read-pairs-requires Inv-loop μ-loop
 read-pairs-requires c κs =
@@ -119,19 +113,19 @@ part-flush-end-2 c = search needs
 flush-requires-2 : tie.Need-flush-requires-2 Inv-loop μ-loop
 flush-requires-2 c κs = search needs
 
-add-t26 : tie.Need-add-t26 Inv-loop μ-loop
-add-t26 c = omega (arith, count-fits (c .before .before .before .before .before .before .before .before .loop .listing) (c .before .before .before .before .before .before .before .before .loop .output) (c .before .before .before .before .before .before .before .before .loop .written) (c .before .before .before .before .before .before .before .before .loop .inv .3) _ _ (c .before .before .before .before .flush2 .ensures))
+add-t27 : tie.Need-add-t27 Inv-loop μ-loop
+add-t27 c = omega (arith, count-fits (c .before .before .before .before .before .before .before .before .loop .listing) (c .before .before .before .before .before .before .before .before .loop .output) (c .before .before .before .before .before .before .before .before .loop .written) (c .before .before .before .before .before .before .before .before .loop .inv .3) _ _ (c .before .before .before .before .flush2 .ensures))
 
 with-line-requires-2 : tie.Need-with-line-requires-2 Inv-loop μ-loop
 with-line-requires-2 c κs = search needs
 
-same-length-3 : tie.Need-same-length-3 Inv-loop μ-loop
-same-length-3 c = search needs
+same-length-2 : tie.Need-same-length-2 Inv-loop μ-loop
+same-length-2 c = search needs
 
-returns-3 : tie.Need-returns-3 Inv-loop μ-loop
-returns-3 c =
+returns-2 : tie.Need-returns-2 Inv-loop μ-loop
+returns-2 c =
     at-end (c .before .before .before .before .before .before .before .before .before .loop .listing) (c .before .before .before .before .before .before .before .before .before .loop .output) (c .before .before .before .before .before .before .before .before .before .loop .written) (c .before .before .before .before .before .before .before .before .before .loop .inv .3) _ _ (c .before .before .before .before .before .flush2 .ensures) _ (c .before .before .before .before .before .before .before .before .before .loop .taken) _ (c .before .before .before .before .before .before .before .before .loop-test .left) (c .with-line2 .ensures)
     ∙ c .before .before .before .before .before .before .before .before .before .loop .inv .0
 
 pub read-spec : {M : Type 1} → statement M
-read-spec = tie.close (tie.spec Inv-loop μ-loop loop-holds sub-flush part-flush-start part-flush-end flush-requires add-written with-line-requires has-more-requires same-length returns same-length-2 returns-2 read-pairs-requires shared-slice-read-absorb absorb-requires add-taken loop-less loop-again loop-less-2 loop-again-2 sub-flush-2 part-flush-start-2 part-flush-end-2 flush-requires-2 add-t26 with-line-requires-2 same-length-3 returns-3)
+read-spec = tie.close (tie.spec Inv-loop μ-loop loop-holds sub-flush part-flush-start part-flush-end flush-requires add-written with-line-requires has-more-requires same-length returns read-pairs-requires shared-slice-read-absorb absorb-requires add-taken loop-less loop-again loop-less-2 loop-again-2 sub-flush-2 part-flush-start-2 part-flush-end-2 flush-requires-2 add-t27 with-line-requires-2 same-length-2 returns-2)

@@ -3,24 +3,22 @@
 -- Assumes nothing.
 use borrow.Author.Needs.{needs}
 use borrow.Author.Tests.{leb-true, ltb-true}
-use mathlib.Core.Bool.{false}
 use mathlib.Core.Path.{_≡_, refl, ap, sym, _∙_}
 use Prim.Native.Nat.{_+_, _-_, _≤_, _<_}
 use native.Mathlib.Omega.{arith}
 use lib.ListN.{length}
-use Rattle.lines.proofs.WholePairs.{as-going, going, pair-taken, place-inside, same-memory}
-use Rattle.lines.specs.Pieces.{comesTo}
-use Rattle.lines.specs.declared.line.Line.{Line}
-use Rattle.lines.specs.declared.listing.Half.the-variants as half
+use Rattle.lines.proofs.WholePairs.{as-between-pairs, pair-taken, place-inside, same-memory}
+use Rattle.lines.specs.Midway.{comesTo}
+use Rattle.lines.specs.Pieces.{betweenPairs}
 use Rattle.lines.specs.declared.listing.Listing.{Listing}
 use Rattle.lines.proofs.listing.Listing.read_pairs.Statement.{statement}
 use Rattle.lines.proofs.listing.Listing.read_pairs.Tie as tie
 
 abbrev Inv-loop : tie.InvT-loop
-Inv-loop input from output₀ at receiver₀ pairs₀ refused₀ taken₀ written₀ output receiver pairs refused taken written = (comesTo input taken (going receiver pairs refused) output written ≡ comesTo input from (going receiver₀ pairs₀ refused₀) output₀ at) × (length output ≡ length output₀) × (from ≤ taken) × (taken ≤ length input) × (written ≤ length output)
+Inv-loop input from out₀ at receiver₀ pairs₀ refused₀ taken₀ written₀ out receiver pairs refused taken written = (comesTo input taken (betweenPairs receiver pairs refused) out written ≡ comesTo input from (betweenPairs receiver₀ pairs₀ refused₀) out₀ at) × (length out ≡ length out₀) × (from ≤ taken) × (taken ≤ length input) × (written ≤ length out)
 
 abbrev μ-loop : tie.MeasureT-loop
-μ-loop input from output₀ at receiver₀ pairs₀ refused₀ taken₀ written₀ output receiver pairs refused taken written = length input - taken
+μ-loop input from out₀ at receiver₀ pairs₀ refused₀ taken₀ written₀ out receiver pairs refused taken written = length input - taken
 
 enum-told : tie.Need-enum-told Inv-loop μ-loop
 enum-told c = search needs
@@ -80,17 +78,17 @@ loop-again c =
     let q = c .count-refusal in
     let k = loop .pairs in
     let whole : loop .taken + 2 ≤ length input = omega (arith, c .before .before .before .before .before .before .before .before .before .before .before .loop-test .taken) in
-    let room : loop .written + 96 ≤ length (loop .output) = omega (arith, leb-true 96 (length (loop .output) - loop .written) (c .before .before .before .before .before .before .before .before .before .before .if1 .taken)) in
+    let room : loop .written + 96 ≤ length (loop .out) = omega (arith, leb-true 96 (length (loop .out) - loop .written) (c .before .before .before .before .before .before .before .before .before .before .if1 .taken)) in
     let less : k < 16777216 = ltb-true k 16777216 (c .before .before .before .before .before .before .before .before .before .if2 .taken) in (
-      pair-taken input (loop .taken) (loop .receiver) k (loop .refused) (loop .output) (loop .written) whole room less _ (d .ensures) _ (put .ensures) _ (q .ensures) ∙ loop .inv .0,
-      same-memory input (loop .taken) (loop .receiver) k (loop .refused) (loop .output) (loop .written) whole room less _ (d .ensures) _ (put .ensures) ∙ loop .inv .1,
+      pair-taken input (loop .taken) (loop .receiver) k (loop .refused) (loop .out) (loop .written) whole room less _ (d .ensures) _ (put .ensures) _ (q .ensures) ∙ loop .inv .0,
+      same-memory input (loop .taken) (loop .receiver) k (loop .refused) (loop .out) (loop .written) whole room less _ (d .ensures) _ (put .ensures) ∙ loop .inv .1,
       omega (arith, loop .inv .2),
       whole,
-      place-inside input (loop .taken) (loop .receiver) k (loop .refused) (loop .output) (loop .written) whole room less _ (d .ensures) _ (put .ensures),
+      place-inside input (loop .taken) (loop .receiver) k (loop .refused) (loop .out) (loop .written) whole room less _ (d .ensures) _ (put .ensures),
     )
 
-new-requires : tie.Need-new-requires Inv-loop μ-loop
-new-requires c κs = search needs
+between-pairs-requires : tie.Need-between-pairs-requires Inv-loop μ-loop
+between-pairs-requires c κs = search needs
 
 same-length : tie.Need-same-length Inv-loop μ-loop
 same-length c = search needs
@@ -100,14 +98,14 @@ returns-2 c =
     let l = c .before .before .before .before .before .before .before .before .args .self in
     let pre = c .before .before .before .before .before .before .before .before .pre in
     let loop = c .before .before .loop in
-    let start = as-going l (c .before .before .before .enum-told .given .1) (pre .1) (pre .0) in (
-      ap (λ (x : Line). comesTo (c .before .before .before .before .before .before .before .before .args .input .now) (loop .taken) (record { receiver = loop .receiver; half = half.Absent; pairs = loop .pairs; refused = loop .refused; ended = false; line = x }) (loop .output) (loop .written)) (c .new .ensures)
+    let start = as-between-pairs l (c .before .before .before .enum-told .given .1) (pre .1) (pre .0) in (
+      ap (λ (x : Listing). comesTo (c .before .before .before .before .before .before .before .before .args .input .now) (loop .taken) x (loop .out) (loop .written)) (c .between-pairs .ensures)
           ∙ loop .inv .0
-          ∙ ap (λ (x : Listing). comesTo (c .before .before .before .before .before .before .before .before .args .input .now) (c .before .before .before .before .before .before .before .before .args .from) x (c .before .before .before .before .before .before .before .before .args .output .now) (c .before .before .before .before .before .before .before .before .args .at)) (sym start),
+          ∙ ap (λ (x : Listing). comesTo (c .before .before .before .before .before .before .before .before .args .input .now) (c .before .before .before .before .before .before .before .before .args .from) x (c .before .before .before .before .before .before .before .before .args .out .now) (c .before .before .before .before .before .before .before .before .args .at)) (sym start),
       loop .inv .1,
       loop .inv .2,
-      (c .new .ensures, refl, loop .inv .3, loop .inv .4),
+      (ap (λ (x : Listing). x .line) (c .between-pairs .ensures), ap (λ (x : Listing). x .ended) (c .between-pairs .ensures), loop .inv .3, loop .inv .4),
     )
 
 pub read-pairs-spec : {M : Type 1} → statement M
-read-pairs-spec = tie.close (tie.spec Inv-loop μ-loop enum-told enum-told-2 returns loop-holds sub-loop sub-if1 shared-slice-read-t23 add-t17 shared-slice-read-t25 decode-requires put-line-of-requires count-refusal-requires add-pairs add-taken loop-less loop-again new-requires same-length returns-2)
+read-pairs-spec = tie.close (tie.spec Inv-loop μ-loop enum-told enum-told-2 returns loop-holds sub-loop sub-if1 shared-slice-read-t23 add-t17 shared-slice-read-t25 decode-requires put-line-of-requires count-refusal-requires add-pairs add-taken loop-less loop-again between-pairs-requires same-length returns-2)
