@@ -4,23 +4,22 @@
 -- Assumes nothing.
 use mathlib.Core.Bool.{Bool, true, false, cond, true≢false}
 use mathlib.Core.List.{List, [], _∷_, _++_, append-assoc, append-nil}
-use mathlib.Core.Logic.{_⊎_, ⊎-elim}
+use mathlib.Core.Logic.{⊎-elim}
 use mathlib.Core.Option.{Option}
 use mathlib.Core.Path.{_≡_, refl, ap, ap₂, sym, subst, _∙_}
 use Prim.Native.Nat.{ℕ, zero, suc, _+_, _-_, _≤_, _<_}
 use native.Mathlib.Omega.{arith}
-use borrow.Author.Tests.{leb-false, le-leb, lt-leb, ltb-false}
+use borrow.Author.Tests.{leb-false, le-leb, lt-leb, ltb-false, ltb-true}
 use lib.Dec.{leb, ltb}
 use lib.ListN.{drop, length, take, take-append-drop}
-use lib.Seq.{take-all}
 use Rattle.code.specs.Outcome.{Outcome, answer, refused}
 use Rattle.code.specs.Write.{pair}
-use Rattle.code.specs.declared.pair.Pair.{Pair}
 use Rattle.event.specs.declared.event.Cea608.{Cea608}
-use Rattle.lines.proofs.Bounds.{ending-short, last-line-short, nine-short, pair-line-short, ten-short}
-use Rattle.lines.proofs.Memory.{Begun, all-put, empty-begun, from-length, waiting-is, written-and-waiting}
+use Rattle.lines.proofs.Bounds.{ending-short, last-line-short, nine-short, pair-fits, ten-short}
+use Rattle.lines.proofs.Memory.{Begun, all-said, empty-begun, waiting-is, written-and-waiting}
+use Rattle.lines.proofs.Waiting.{empty-where-no-more}
 use Rattle.lines.specs.Cutting.{Cut, Finished, Run, atEnd, began, cutAll, cutOnce, halfBytes, saysYet}
-use Rattle.lines.specs.Line.{bytesFrom, emptyLine, hasMore, pending, putAll, unwritten, waiting, writes}
+use Rattle.lines.specs.Line.{bytesFrom, emptyLine, hasMore, pending, says, unwritten, waiting, writes}
 use Rattle.lines.specs.Listing.{endsRefused, listFrom, listing, mostPairs, refusals}
 use Rattle.lines.specs.Pieces.{Piece, absorbed, afterPair, behind, counted, endBy, endedListing, ending, flushedOnly, freshListing, isDone, oneMore, pieceOf, refusedBy, stops, withByte, withHalf, withLine}
 use Rattle.lines.specs.Words.{lastLine, line, lineOf, refusedWords}
@@ -28,9 +27,7 @@ use Rattle.lines.specs.declared.line.Line.{Line}
 use Rattle.lines.specs.declared.listing.Half.{Half}
 use Rattle.lines.specs.declared.listing.Half.the-variants as half
 use Rattle.lines.specs.declared.listing.Listing.{Listing}
-use Rattle.receiver.proofs.Step.{even-is-refused-1, odd-is-not-refused}
-use Rattle.code.specs.Read.{isOddPair}
-use Rattle.receiver.specs.Receiver.{Stepped, fresh, step}
+use Rattle.receiver.specs.Receiver.{step}
 use Rattle.receiver.specs.declared.state.Cea608State.{Cea608State}
 
 -- a half pair is there only below the limit
@@ -62,19 +59,7 @@ none-waits l e = ap (bytesFrom (l .bytes) (l .at)) e
 one-more : (q : ℕ) → q ≤ mostPairs → oneMore q ≡ q + 1
 one-more q few = rw (le-leb q mostPairs few) refl
 
-same-refusal : {n m : ℕ} → _≡_ {A = Outcome (Option Cea608)} (refused n) (refused m) → n ≡ m
-same-refusal e = cc
-
--- the refusals of a pair are by 1, and count as one
-by-one : (s : Cea608State) (p : Pair) (n : ℕ) → step s p .0 ≡ refused n → n < 100000000
-by-one s p n e = by-parity (isOddPair p) refl
-  where
-    by-parity : (t : Bool) → isOddPair p ≡ t → n < 100000000
-    by-parity true odd = absurd (odd-is-not-refused s p n odd e)
-    by-parity false even =
-        let one : n ≡ 1 = same-refusal (sym e ∙ ap (λ (r : Stepped). r .0) (even-is-refused-1 s p even)) in
-        omega (arith, one)
-
+-- a refusal counts as one
 counts : (o : Outcome (Option Cea608)) (q : ℕ) → q ≤ mostPairs → counted o q ≡ q + refusals o
 counts (answer e) q few = omega arith
 counts (refused n) q few = one-more q few
@@ -84,7 +69,7 @@ module _ (l : Listing) (begun : Line) (good : Begun begun) (ahead : begun .at �
   ended-says : (words : List ℕ) (q : ℕ) (input : List ℕ) → length (words ++ lastLine (l .pairs) q) ≤ 54 → saysYet (ending l begun words q) input ≡ pending begun ++ (words ++ lastLine (l .pairs) q)
   ended-says words q input short =
       let all = words ++ lastLine (l .pairs) q in
-      append-nil (pending (putAll begun all)) ∙ all-put all begun good ahead (omega (arith, short, room)) .waits
+      append-nil (pending (says begun all)) ∙ all-said all begun good ahead (omega (arith, short, room)) .waits
 
   refused-says : (n : ℕ) (input : List ℕ) → l .pairs ≤ mostPairs → l .refused ≤ mostPairs → length (refusedWords n) ≤ 10 → saysYet (refusedBy n l begun) input ≡ pending begun ++ endsRefused n (l .pairs) (l .refused)
   refused-says n input few less short =
@@ -109,8 +94,8 @@ module _ (l : Listing) (on : l .ended ≡ false) (o : Open l) (quiet : pending (
   pair-says x a rest less =
       let r = step (l .receiver) (pair x a) in
       let said = lineOf (l .pairs) (r .0) in
-      let fits = pair-line-short (l .pairs) (r .0) (omega (arith, less)) (by-one (l .receiver) (pair x a)) in
-      let waits = all-put said emptyLine empty-begun (omega arith) (omega (arith, fits)) .waits in
+      let fits = pair-fits (l .receiver) (pair x a) (l .pairs) less in
+      let waits = all-said said emptyLine empty-begun (omega arith) (omega (arith, fits)) .waits in
       let below : leb mostPairs (l .pairs) ≡ false = lt-leb mostPairs (l .pairs) less in
       rw below
       (ap₂ (λ (xs : List ℕ) (q : ℕ). xs ++ listFrom (r .1) (l .pairs + 1) q rest) (sym waits) (sym (counts (r .0) (l .refused) (omega (arith, o .refused, less))))
@@ -153,8 +138,8 @@ pair-open : (l : Listing) → Open l → (x a : ℕ) → l .pairs < mostPairs �
 pair-open l o x a less =
     let r = step (l .receiver) (pair x a) in
     let said = lineOf (l .pairs) (r .0) in
-    let fits = pair-line-short (l .pairs) (r .0) (omega (arith, less)) (by-one (l .receiver) (pair x a)) in
-    let holds = all-put said emptyLine empty-begun (omega arith) (omega (arith, fits)) in
+    let fits = pair-fits (l .receiver) (pair x a) (l .pairs) less in
+    let holds = all-said said emptyLine empty-begun (omega arith) (omega (arith, fits)) in
     record {
       pairs = omega (arith, less);
       refused = omega (arith, counts (r .0) (l .refused) (omega (arith, o .refused, less)), few-refusals (r .0), o .refused);
@@ -183,32 +168,30 @@ flush-says l room input =
     ap (λ (xs : List ℕ). xs ++ rest) (written-and-waiting (l .line) room)
     ∙ append-assoc (writes (l .line) room) (pending (unwritten (l .line) room)) rest
 
--- so much is written as waits, where there is room for it
-take-short : (n : ℕ) (xs : List ℕ) → length (take n xs) ≤ length xs
-take-short zero xs = omega arith
-take-short (suc n) [] = omega arith
-take-short (suc n) (x ∷ xs) = omega (arith, take-short n xs)
-
-writes-short : (l : Line) (room : ℕ) → length (writes l room) ≤ waiting l
-writes-short l room = omega (arith, take-short room (pending l), from-length (l .bytes) (l .at) (waiting l))
-
 flushed-open : (l : Listing) (room : ℕ) → Open l → Open (withLine l (unwritten (l .line) room))
-flushed-open l room o = record {
-  pairs = o .pairs;
-  refused = o .refused;
-  half = o .half;
-  begun = record { places = o .begun .places; inside = o .begun .inside };
-  ahead = omega (arith, o .ahead, o .short, writes-short (l .line) room, waiting-is (l .line) (o .begun .inside));
-  short = o .short;
-}
+flushed-open l room o = by-room (ltb room (waiting (l .line))) refl
+  where
+    by-room : (t : Bool) → ltb room (waiting (l .line)) ≡ t → Open (withLine l (cond t (record { bytes = l .line .bytes; at = l .line .at + room; len = l .line .len }) emptyLine))
+    by-room true more = record {
+      pairs = o .pairs;
+      refused = o .refused;
+      half = o .half;
+      begun = record { places = o .begun .places; inside = o .begun .inside };
+      ahead = omega (arith, ltb-true room (waiting (l .line)) more, waiting-is (l .line) (o .begun .inside));
+      short = o .short;
+    }
+    by-room false none = record {
+      pairs = o .pairs;
+      refused = o .refused;
+      half = o .half;
+      begun = empty-begun;
+      ahead = omega arith;
+      short = omega arith;
+    }
 
 -- nothing waits once all of it was written
-all-written : (l : Line) (room : ℕ) → waiting l ≤ room → pending (unwritten l room) ≡ []
-all-written l room few =
-    let n = length (writes l room) in
-    let whole : n ≡ waiting l = ap length (take-all room (pending l) (omega (arith, few, from-length (l .bytes) (l .at) (waiting l)))) ∙ from-length (l .bytes) (l .at) (waiting l) in
-    let gone : waiting (unwritten l room) ≡ 0 = omega (arith, whole) in
-    none-waits (unwritten l room) gone
+all-written : (l : Line) (room : ℕ) → ltb room (waiting l) ≡ false → pending (unwritten l room) ≡ []
+all-written l room none = ap pending (empty-where-no-more l room none)
 
 -- one piece: what was said is what the piece wrote, then what is said of the input that it did not take
 abbrev Goes : Listing → List ℕ → List ℕ → Piece → Type 0
@@ -236,7 +219,7 @@ module _ (l : Listing) (sound : Sound l) (a : ℕ) (rest more : List ℕ) (room 
   goes-on on fits next = (
     flush-says l room (a ∷ (rest ++ more))
         ∙ ap (λ (xs : List ℕ). writes (l .line) room ++ xs)
-        (a-byte-says-the-same flushed on (flushed-open l room (sound on)) (all-written (l .line) room (ltb-false room (waiting (l .line)) fits)) a (rest ++ more)
+        (a-byte-says-the-same flushed on (flushed-open l room (sound on)) (all-written (l .line) room fits) a (rest ++ more)
         ∙ next .0)
         ∙ sym (append-assoc (writes (l .line) room) (later .text) (saysYet (later .next) (drop (later .taken) rest ++ more)))
         ∙ ap (λ (xs : List ℕ). (writes (l .line) room ++ later .text) ++ saysYet (later .next) (xs ++ more)) (sym (drop-more (later .taken) a rest)),

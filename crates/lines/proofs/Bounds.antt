@@ -3,7 +3,7 @@
 use mathlib.Core.Bool.{Bool, true, false, cond}
 use mathlib.Core.List.{List, [], _∷_, _++_}
 use mathlib.Core.Option.{Option, none, some}
-use mathlib.Core.Path.{_≡_, refl}
+use mathlib.Core.Path.{_≡_, refl, ap, sym, _∙_}
 use Prim.Native.Nat.{ℕ, _+_, _≤_, _<_}
 use native.Mathlib.Omega.{arith}
 use borrow.Author.Tests.{lt-leb}
@@ -19,8 +19,13 @@ use Rattle.event.specs.declared.event.Cea608.{Cea608}
 use Rattle.event.specs.declared.event.Cea608.the-variants as event
 use Rattle.event.specs.declared.mode.Mode.{Mode}
 use Rattle.event.specs.declared.mode.Mode.the-variants as mode
-use Rattle.lines.specs.Listing.{endsRefused}
-use Rattle.lines.specs.Words.{atPlace, atPlaces, channelDigit, characterWord, decimal, eventWords, flagDigit, hex, lastLine, line, lineOf, modeWord, refusedWords}
+use Rattle.lines.specs.Listing.{endsRefused, mostPairs}
+use Rattle.code.specs.Read.{isOddPair}
+use Rattle.code.specs.declared.pair.Pair.{Pair}
+use Rattle.receiver.proofs.Step.{even-is-refused-1, odd-is-not-refused}
+use Rattle.receiver.specs.Receiver.{Stepped, step}
+use Rattle.receiver.specs.declared.state.Cea608State.{Cea608State}
+use Rattle.lines.specs.Words.{atPlace, atPlaces, characterWord, decimal, eventWords, flagDigit, lastLine, line, lineOf, modeWord, refusedWords}
 
 one-digit : (t : Bool) (d : ℕ) → length (cond t (d ∷ []) []) ≤ 1
 one-digit true d = omega arith
@@ -84,10 +89,26 @@ refused-short : (n : ℕ) → n < 100000000 → length (refusedWords n) ≤ 16
 refused-short n less = omega (arith, eight-digits n less)
 
 -- the line of a pair has at most 42 bytes
-pub pair-line-short : (k : ℕ) (o : Outcome (Option Cea608)) → k < 100000000 → ((n : ℕ) → o ≡ refused n → n < 100000000) → length (lineOf k o) ≤ 42
+pair-line-short : (k : ℕ) (o : Outcome (Option Cea608)) → k < 100000000 → ((n : ℕ) → o ≡ refused n → n < 100000000) → length (lineOf k o) ≤ 42
 pair-line-short k (answer none) less few = omega arith
 pair-line-short k (answer (some e)) less few = line-short k 32 (eventWords e) less (event-short e)
 pair-line-short k (refused n) less few = omega (arith, line-short k 16 (refusedWords n) less (refused-short n (few n refl)))
+
+same-refusal : {n m : ℕ} → _≡_ {A = Outcome (Option Cea608)} (refused n) (refused m) → n ≡ m
+same-refusal e = cc
+
+-- the refusals of a pair are by 1
+by-one : (s : Cea608State) (p : Pair) (n : ℕ) → step s p .0 ≡ refused n → n < 100000000
+by-one s p n e = by-parity (isOddPair p) refl
+  where
+    by-parity : (t : Bool) → isOddPair p ≡ t → n < 100000000
+    by-parity true odd = absurd (odd-is-not-refused s p n odd e)
+    by-parity false even =
+        let one : n ≡ 1 = same-refusal (sym e ∙ ap (λ (r : Stepped). r .0) (even-is-refused-1 s p even)) in
+        omega (arith, one)
+
+pub pair-fits : (s : Cea608State) (p : Pair) (k : ℕ) → k < mostPairs → length (lineOf k (step s p .0)) ≤ 42
+pair-fits s p k less = pair-line-short k (step s p .0) (omega (arith, less)) (by-one s p)
 
 last-short : (p q : ℕ) → p < 100000000 → q < 100000000 → length (lastLine p q) ≤ 32
 last-short p q lp lq =

@@ -1,13 +1,16 @@
 -- A flush, one byte at a time: the output after so many bytes, and that all that there is room for is a flush.
 -- Assumes nothing.
+use mathlib.Core.Bool.{Bool, true, cond}
 use mathlib.Core.List.{List, _++_}
 use mathlib.Core.Path.{_≡_, ap, ap₂, sym, _∙_}
 use Prim.Native.Nat.{ℕ, suc, _+_, _≤_, _<_}
 use native.Mathlib.Omega.{arith}
+use borrow.Author.Tests.{le-ltb, lt-ltb}
+use lib.Dec.{ltb}
 use lib.ListN.{drop, getD, length, set, take}
 use lib.Seq.{length-take-le, paste-suc, take-all}
-use Rattle.lines.proofs.Waiting.{byte-at, how-many}
-use Rattle.lines.specs.Line.{flushed, over, pending, waiting}
+use Rattle.lines.proofs.Waiting.{byte-at, empty-where-no-more, how-many}
+use Rattle.lines.specs.Line.{emptyLine, flushed, over, pending, unwritten, waiting, writes}
 use Rattle.lines.specs.declared.line.Line.{Line}
 
 -- the output after so many bytes of the line
@@ -24,23 +27,27 @@ one-byte l output count room more =
     ∙ paste-suc output 0 (pending l) count 0 (omega arith) (omega (arith, how-many l))
     ∙ ap₂ (λ (i j : ℕ). take i (pending l) ++ drop j output) one next
 
--- what is told of so many bytes, at a place
-abbrev told : Line → ℕ → ℕ → List ℕ → ℕ × Line × List ℕ
-told l count at output = (count, record { bytes = l .bytes; at = at; len = l .len }, output)
+abbrev Flush : Type 0
+Flush = ℕ × Line × List ℕ
 
 -- all that waits, or as much as there is room for
-module _ (l : Line) (output now : List ℕ) (count at : ℕ) (so-far : now ≡ written l output count) (here : at ≡ l .at + count) where
-  flushed-at : count ≤ waiting l → take count (pending l) ≡ take (length output) (pending l) → told l count at now ≡ flushed l output
-  flushed-at most all =
+module _ (l : Line) (output now : List ℕ) (count : ℕ) (so-far : now ≡ written l output count) where
+  flushed-at : (left : Line) → count ≤ waiting l → take count (pending l) ≡ writes l (length output) → left ≡ unwritten l (length output) → (count, left, now) ≡ flushed l output
+  flushed-at left most all rest =
       let counted : count ≡ length (take count (pending l)) = sym (length-take-le count (pending l) (omega (arith, how-many l))) in
-      ap₂ (told l count) here so-far
-      ∙ ap (λ (n : ℕ). told l n (l .at + n) (take count (pending l) ++ drop n output)) counted
-      ∙ ap (λ (w : List ℕ). told l (length w) (l .at + length w) (over w output)) all
+      ap₂ {C = Flush} (λ (x : Line) (o : List ℕ). (count, x, o)) rest so-far
+      ∙ ap {B = Flush} (λ (n : ℕ). (n, unwritten l (length output), take count (pending l) ++ drop n output)) counted
+      ∙ ap {B = Flush} (λ (w : List ℕ). (length w, unwritten l (length output), over w output)) all
 
-  pub flushed-full : count ≤ waiting l → count ≡ length output → told l count at now ≡ flushed l output
-  flushed-full most full = flushed-at most (ap (λ (n : ℕ). take n (pending l)) full)
+  pub flushed-full : (at : ℕ) → at ≡ l .at + count → count < waiting l → count ≡ length output → (count, record { bytes = l .bytes; at = at; len = l .len }, now) ≡ flushed l output
+  flushed-full at here more full =
+      let test : ltb (length output) (waiting l) ≡ true = lt-ltb (length output) (waiting l) (omega (arith, more, full)) in
+      flushed-at _ (omega arith) (ap (λ (n : ℕ). take n (pending l)) full)
+      (ap {B = Line} (λ (k : ℕ). record { bytes = l .bytes; at = k; len = l .len }) (here ∙ ap (λ (n : ℕ). l .at + n) full)
+      ∙ sym (ap (λ (t : Bool). cond t (record { bytes = l .bytes; at = l .at + length output; len = l .len }) emptyLine) test))
 
-  pub flushed-empty : count ≡ waiting l → count ≤ length output → told l count at now ≡ flushed l output
+  pub flushed-empty : count ≡ waiting l → count ≤ length output → (count, emptyLine, now) ≡ flushed l output
   flushed-empty all room =
       let most : length (pending l) ≤ count = omega (arith, how-many l) in
-      flushed-at (omega arith) (take-all count (pending l) most ∙ sym (take-all (length output) (pending l) (omega arith)))
+      flushed-at emptyLine (omega arith) (take-all count (pending l) most ∙ sym (take-all (length output) (pending l) (omega arith)))
+      (sym (empty-where-no-more l (length output) (le-ltb (length output) (waiting l) (omega arith))))

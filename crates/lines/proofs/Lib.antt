@@ -7,3 +7,4 @@ pub mod Progress
 pub mod Puts
 pub mod Reading
 pub mod Waiting
+pub mod WholePairs

@@ -6,11 +6,13 @@ use mathlib.Core.List.{List, [], _∷_, _++_, append-assoc, append-nil}
 use mathlib.Core.Path.{_≡_, refl, ap, ap₂, sym, subst, _∙_}
 use Prim.Native.Nat.{ℕ, zero, suc, _+_, _-_, _≤_, _<_}
 use native.Mathlib.Omega.{arith}
-use borrow.Author.Tests.{lt-leb}
-use lib.Dec.{leb}
-use lib.ListN.{getD, length, length-set, replicate, set, take}
-use lib.Seq.{getD-set-other, getD-set-same}
-use Rattle.lines.specs.Line.{bytesFrom, emptyLine, pending, put, putAll, unwritten, waiting, writes}
+use borrow.Author.Tests.{ltb-false, ltb-true}
+use lib.Dec.{leb, ltb}
+use lib.ListN.{getD, length, length-set, set, take}
+use lib.Seq.{getD-set-other, getD-set-same, take-all}
+use Rattle.lines.proofs.Puts.{put-as}
+use Rattle.lines.specs.Line.{bytesFrom, emptyLine, pending, says, unwritten, waiting, writes}
+use Rattle.lines.specs.Put.{Placed, putAll}
 use Rattle.lines.specs.declared.line.Line.{Line}
 
 -- a line of the 96 places that every value of the type has, with all its bytes inside them
@@ -51,74 +53,72 @@ waiting-is l inside = by-length (leb 96 (l .len)) refl
     by-length true e = omega (arith, inside, borrow.Author.Tests.leb-true 96 (l .len) e)
     by-length false e = refl
 
--- a byte put into a line with a place for it
-put-as : (l : Line) (b : ℕ) → l .len < 96 → put l b ≡ record { bytes = set (l .bytes) (l .len) b; at = l .at; len = l .len + 1 }
-put-as l b less = rw (lt-leb 96 (l .len) less) refl
+-- a line with a byte more
+abbrev further : Line → ℕ → Line
+further l b = record { bytes = set (l .bytes) (l .len) b; at = l .at; len = l .len + 1 }
 
-pub put-begun : (l : Line) (b : ℕ) → Begun l → l .len < 96 → Begun (put l b)
-put-begun l b begun less =
-    subst Begun (sym (put-as l b less))
-    (record { places = length-set (l .bytes) (l .len) b ∙ begun .places; inside = omega (arith, less) })
+further-begun : (l : Line) (b : ℕ) → Begun l → l .len < 96 → Begun (further l b)
+further-begun l b begun less = record { places = length-set (l .bytes) (l .len) b ∙ begun .places; inside = omega (arith, less) }
 
-pub put-waits : (l : Line) (b : ℕ) → Begun l → l .len < 96 → l .at ≤ l .len → pending (put l b) ≡ pending l ++ (b ∷ [])
-put-waits l b begun less ahead =
+further-waits : (l : Line) (b : ℕ) → Begun l → l .len < 96 → l .at ≤ l .len → pending (further l b) ≡ pending l ++ (b ∷ [])
+further-waits l b begun less ahead =
     let n = l .len - l .at in
     let there : l .at + n ≡ l .len = omega (arith, ahead) in
-    let next : Line = record { bytes = set (l .bytes) (l .len) b; at = l .at; len = l .len + 1 } in
-    let more : waiting next ≡ n + 1 = waiting-is next (omega (arith, less)) ∙ omega (arith, ahead) in
-    ap pending (put-as l b less)
-    ∙ ap (bytesFrom (set (l .bytes) (l .len) b) (l .at)) more
+    let more : waiting (further l b) ≡ n + 1 = waiting-is (further l b) (omega (arith, less)) ∙ omega (arith, ahead) in
+    ap (bytesFrom (set (l .bytes) (l .len) b) (l .at)) more
     ∙ from-one-more (set (l .bytes) (l .len) b) (l .at) n
     ∙ ap₂ (λ (xs : List ℕ) (y : ℕ). xs ++ (y ∷ [])) (set-behind (l .bytes) (l .at) n (l .len) b (omega (arith, there)))
     (ap (λ (k : ℕ). getD (set (l .bytes) (l .len) b) k 0) there ∙ getD-set-same (l .bytes) (l .len) b 0 (omega (arith, less, begun .places)))
     ∙ ap (λ (k : ℕ). bytesFrom (l .bytes) (l .at) k ++ (b ∷ [])) (sym (waiting-is l (omega (arith, less))))
 
-put-len : (l : Line) (b : ℕ) → l .len < 96 → put l b .len ≡ l .len + 1
-put-len l b less = ap (λ (x : Line). x .len) (put-as l b less)
-
-put-at : (l : Line) (b : ℕ) → l .len < 96 → put l b .at ≡ l .at
-put-at l b less = ap (λ (x : Line). x .at) (put-as l b less)
-
--- all bytes put into a line with places for them wait behind what waits
+-- all bytes said by a line with places for them wait behind what waits
 pub record Holds (l next : Line) (bs : List ℕ) : Type 0 where
   pub begun : Begun next
   pub waits : pending next ≡ pending l ++ bs
   pub len : next .len ≡ l .len + length bs
   pub at : next .at ≡ l .at
 
-pub all-put : (bs : List ℕ) (l : Line) → Begun l → l .at ≤ l .len → l .len + length bs ≤ 96 → Holds l (putAll l bs) bs
-all-put [] l begun ahead fits = record { begun = begun; waits = sym (append-nil (pending l)); len = omega arith; at = refl }
-all-put (b ∷ bs) l begun ahead fits =
+abbrev placed : Line → Placed → Line
+placed l s = record { bytes = s .1; at = l .at; len = s .0 }
+
+pub all-said : (bs : List ℕ) (l : Line) → Begun l → l .at ≤ l .len → l .len + length bs ≤ 96 → Holds l (says l bs) bs
+all-said [] l begun ahead fits = record { begun = begun; waits = sym (append-nil (pending l)); len = omega arith; at = refl }
+all-said (b ∷ bs) l begun ahead fits =
     let less : l .len < 96 = omega (arith, fits) in
-    let here = put-len l b less in
-    let later = all-put bs (put l b) (put-begun l b begun less) (omega (arith, here, put-at l b less, ahead)) (omega (arith, here, fits)) in
-    record {
+    let one : says l (b ∷ bs) ≡ says (further l b) bs = ap (λ (s : Placed). placed l (putAll s bs)) (put-as (l .len) (l .bytes) b (omega (arith, less, begun .places))) in
+    let later = all-said bs (further l b) (further-begun l b begun less) (omega (arith, ahead)) (omega (arith, fits)) in
+    subst (λ (x : Line). Holds l x (b ∷ bs)) (sym one)
+    (record {
       begun = later .begun;
       waits =
           later .waits
-          ∙ ap (λ (xs : List ℕ). xs ++ bs) (put-waits l b begun less ahead)
+          ∙ ap (λ (xs : List ℕ). xs ++ bs) (further-waits l b begun less ahead)
           ∙ append-assoc (pending l) (b ∷ []) bs;
-      len = omega (arith, later .len, here);
-      at = later .at ∙ put-at l b less;
-    }
+      len = omega (arith, later .len);
+      at = later .at;
+    })
 
 -- what is written and what waits then
-cut-at : (bytes : List ℕ) (at n room : ℕ) → bytesFrom bytes at n ≡ take room (bytesFrom bytes at n) ++ bytesFrom bytes (at + length (take room (bytesFrom bytes at n))) (n - length (take room (bytesFrom bytes at n)))
-cut-at bytes at n zero =
-    let here : at + 0 ≡ at = omega arith in
-    let all : n - 0 ≡ n = omega arith in
-    sym (ap₂ (bytesFrom bytes) here all)
-cut-at bytes at zero (suc room) = refl
-cut-at bytes at (suc n) (suc room) =
-    let taken = length (take room (bytesFrom bytes (at + 1) n)) in
-    let there : at + 1 + taken ≡ at + suc taken = omega arith in
-    let left : n - taken ≡ suc n - suc taken = omega arith in
+cut-at : (bytes : List ℕ) (at n room : ℕ) → room ≤ n → bytesFrom bytes at n ≡ take room (bytesFrom bytes at n) ++ bytesFrom bytes (at + room) (n - room)
+cut-at bytes at n zero less =
+    let here : at ≡ at + 0 = omega arith in
+    let all : n ≡ n - 0 = omega arith in
+    ap₂ (bytesFrom bytes) here all
+cut-at bytes at zero (suc room) less = absurd (omega (arith, less))
+cut-at bytes at (suc n) (suc room) less =
+    let there : at + 1 + room ≡ at + suc room = omega arith in
+    let left : n - room ≡ suc n - suc room = omega arith in
     ap (λ (l : List ℕ). getD bytes at 0 ∷ l)
-    (cut-at bytes (at + 1) n room ∙ ap₂ (λ (a k : ℕ). take room (bytesFrom bytes (at + 1) n) ++ bytesFrom bytes a k) there left)
+    (cut-at bytes (at + 1) n room (omega (arith, less)) ∙ ap₂ (λ (a k : ℕ). take room (bytesFrom bytes (at + 1) n) ++ bytesFrom bytes a k) there left)
 
 pub written-and-waiting : (l : Line) (room : ℕ) → pending l ≡ writes l room ++ pending (unwritten l room)
-written-and-waiting l room =
-    let n = length (writes l room) in
-    let left : waiting l - n ≡ waiting (unwritten l room) = omega arith in
-    cut-at (l .bytes) (l .at) (waiting l) room
-    ∙ ap (λ (k : ℕ). writes l room ++ bytesFrom (l .bytes) (l .at + n) k) left
+written-and-waiting l room = by-room (ltb room (waiting l)) refl
+  where
+    by-room : (t : Bool) → ltb room (waiting l) ≡ t → pending l ≡ writes l room ++ pending (cond t (record { bytes = l .bytes; at = l .at + room; len = l .len }) emptyLine)
+    by-room true more =
+        let less : room < waiting l = ltb-true room (waiting l) more in
+        let left : waiting l - room ≡ waiting (record { bytes = l .bytes; at = l .at + room; len = l .len }) = omega arith in
+        cut-at (l .bytes) (l .at) (waiting l) room (omega (arith, less))
+        ∙ ap (λ (k : ℕ). writes l room ++ bytesFrom (l .bytes) (l .at + room) k) left
+    by-room false none =
+        sym (append-nil (writes l room) ∙ take-all room (pending l) (omega (arith, ltb-false room (waiting l) none, from-length (l .bytes) (l .at) (waiting l))))

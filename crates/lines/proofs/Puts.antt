@@ -1,36 +1,77 @@
--- Bytes put behind a line one after the other: a chain of puts is one put of all their bytes.
+-- Bytes put into memory one after the other: a chain of puts is one put of all their bytes, and where there are places for
+-- them they stand from the first place on, with what was in front and behind as it was.
 -- Assumes nothing.
-use mathlib.Core.List.{List, [], _∷_, _++_}
+use mathlib.Core.Bool.{Bool, true, false, cond}
+use mathlib.Core.List.{List, [], _∷_, _++_, append-assoc}
 use mathlib.Core.Path.{_≡_, refl, ap, sym, _∙_}
-use Prim.Native.Nat.{ℕ}
-use Rattle.lines.specs.Line.{put, putAll}
+use Prim.Native.Nat.{ℕ, suc, _+_, _≤_, _<_}
+use native.Mathlib.Omega.{arith}
+use borrow.Author.Tests.{lt-leb}
+use lib.Dec.{leb}
+use lib.ListN.{drop, length, length-set, set, take}
+use lib.Seq.{drop-drop, sets, sets-eq}
+use Rattle.lines.specs.Line.{over}
+use Rattle.lines.specs.Put.{Placed, putAll, putOne}
 use Rattle.lines.specs.Words.{decimal}
-use Rattle.lines.specs.declared.line.Line.{Line}
 
 infixr 5 _then_
--- a line with these bytes put behind it is that line
-pub data Put (l : Line) (bytes : List ℕ) (next : Line) : Type 0 where
-  is : next ≡ putAll l bytes → Put l bytes next
+-- a place and a memory with these bytes put from the place on are that place and memory
+pub data Put (s : Placed) (bytes : List ℕ) (next : Placed) : Type 0 where
+  is : next ≡ putAll s bytes → Put s bytes next
 
-pub chain : {l next : Line} {bytes : List ℕ} → Put l bytes next → next ≡ putAll l bytes
+pub chain : {s next : Placed} {bytes : List ℕ} → Put s bytes next → next ≡ putAll s bytes
 chain (is e) = e
 
-pub put-parts : (l : Line) (xs ys : List ℕ) → putAll l (xs ++ ys) ≡ putAll (putAll l xs) ys
-put-parts l [] ys = refl
-put-parts l (x ∷ xs) ys = put-parts (put l x) xs ys
+pub put-parts : (s : Placed) (xs ys : List ℕ) → putAll s (xs ++ ys) ≡ putAll (putAll s xs) ys
+put-parts s [] ys = refl
+put-parts s (x ∷ xs) ys = put-parts (putOne s x) xs ys
 
-pub _then_ : {l m next : Line} {xs ys : List ℕ} → Put l xs m → Put m ys next → Put l (xs ++ ys) next
-_then_ {l} {m} {next} {xs} {ys} (is first) (is rest) = is (rest ∙ ap (λ (k : Line). putAll k ys) first ∙ sym (put-parts l xs ys))
+pub _then_ : {s t next : Placed} {xs ys : List ℕ} → Put s xs t → Put t ys next → Put s (xs ++ ys) next
+_then_ {s} {t} {next} {xs} {ys} (is first) (is rest) = is (rest ∙ ap (λ (k : Placed). putAll k ys) first ∙ sym (put-parts s xs ys))
 
 -- the links of a chain: a word, a byte, and a digit or a number that was found to be this one
-pub word : (l : Line) (bytes : List ℕ) {next : Line} → next ≡ putAll l bytes → Put l bytes next
-word l bytes e = is e
+pub word : (s : Placed) (bytes : List ℕ) {next : Placed} → next ≡ putAll s bytes → Put s bytes next
+word s bytes e = is e
 
-pub byte : (l : Line) (b : ℕ) {next : Line} → next ≡ put l b → Put l (b ∷ []) next
-byte l b e = is e
+pub byte : (s : Placed) (b : ℕ) {next : Placed} → next ≡ putOne s b → Put s (b ∷ []) next
+byte s b e = is e
 
-pub digit : (l : Line) {d b : ℕ} {next : Line} → d ≡ b → next ≡ put l d → Put l (b ∷ []) next
-digit l same e = is (e ∙ ap (put l) same)
+pub digit : (s : Placed) {d b : ℕ} {next : Placed} → d ≡ b → next ≡ putOne s d → Put s (b ∷ []) next
+digit s same e = is (e ∙ ap (putOne s) same)
 
-pub number : (l : Line) {d n : ℕ} {next : Line} → d ≡ n → next ≡ putAll l (decimal d) → Put l (decimal n) next
-number l same e = is (e ∙ ap (λ (k : ℕ). putAll l (decimal k)) same)
+pub number : (s : Placed) {d n : ℕ} {next : Placed} → d ≡ n → next ≡ putAll s (decimal d) → Put s (decimal n) next
+number s same e = is (e ∙ ap (λ (k : ℕ). putAll s (decimal k)) same)
+
+-- no byte makes the memory longer
+pub puts-length : (bs : List ℕ) (s : Placed) → length (putAll s bs .1) ≡ length (s .1)
+puts-length [] s = refl
+puts-length (b ∷ bs) s = puts-length bs (putOne s b) ∙ by-place (leb (length (s .1)) (s .0))
+  where
+    by-place : (t : Bool) → length (cond {A = Placed} t s (s .0 + 1, set (s .1) (s .0) b) .1) ≡ length (s .1)
+    by-place true = refl
+    by-place false = length-set (s .1) (s .0) b
+
+-- a byte for which there is a place
+pub put-as : (at : ℕ) (out : List ℕ) (b : ℕ) → at < length out → putOne (at, out) b ≡ (at + 1, set out at b)
+put-as at out b less = rw (lt-leb (length out) at less) refl
+
+-- bytes for which there are places
+put-as-sets : (bs : List ℕ) (at : ℕ) (out : List ℕ) → at + length bs ≤ length out → putAll (at, out) bs ≡ (at + length bs, sets out at bs)
+put-as-sets [] at out fits =
+    let here : at ≡ at + 0 = omega arith in
+    ap {B = Placed} (λ (k : ℕ). (k, out)) here
+put-as-sets (b ∷ bs) at out fits =
+    let one : at + 1 ≡ suc at = omega arith in
+    let behind : suc at + length bs ≡ at + suc (length bs) = omega arith in
+    ap (λ (s : Placed). putAll s bs) (put-as at out b (omega (arith, fits)))
+    ∙ ap (λ (k : ℕ). putAll (k, set out at b) bs) one
+    ∙ put-as-sets bs (suc at) (set out at b) (omega (arith, fits, length-set out at b))
+    ∙ ap {B = Placed} (λ (k : ℕ). (k, sets (set out at b) (suc at) bs)) behind
+
+pub all-places : (bs : List ℕ) (at : ℕ) (out : List ℕ) → at + length bs ≤ length out → putAll (at, out) bs ≡ (at + length bs, take at out ++ over bs (drop at out))
+all-places bs at out fits =
+    put-as-sets bs at out fits
+    ∙ ap {B = Placed} (λ (o : List ℕ). (at + length bs, o))
+    (sets-eq bs out at fits
+    ∙ append-assoc (take at out) bs (drop (at + length bs) out)
+    ∙ ap (λ (d : List ℕ). take at out ++ (bs ++ d)) (sym (drop-drop (length bs) at out)))

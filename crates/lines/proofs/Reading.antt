@@ -2,31 +2,21 @@
 -- before a turn and after it; where it stops, it is what the flush left.
 -- Assumes nothing.
 use mathlib.Core.Bool.{Bool, true, false, cond}
-use mathlib.Core.List.{List, _∷_, _++_, append-assoc, append-nil}
+use mathlib.Core.List.{List, [], _∷_, _++_, append-assoc, append-nil}
 use mathlib.Core.Path.{_≡_, refl, ap, ap₂, sym, _∙_}
 use Prim.Native.Nat.{ℕ, _+_, _-_, _≤_, _<_}
 use native.Mathlib.Numerals.{add-one}
 use native.Mathlib.Omega.{arith}
 use lib.Dec.{ltb}
 use lib.ListN.{drop, drop-of-length-le, getD, length, length-append, length-drop, take}
-use lib.Seq.{drop-at, drop-cons, drop-drop, length-front, length-take-le, take-all, take-at}
-use Rattle.lines.proofs.Waiting.{fits, left-where-more}
-use Rattle.lines.specs.Line.{flushOutcome, flushed, hasMore, over, unwritten, waiting, writes}
-use Rattle.lines.specs.Pieces.{Piece, absorbed, behind, flushedOnly, pieceOf, readListing, stops, withLine}
+use lib.Seq.{drop-at, drop-cons, drop-drop, length-front, length-take-le, take-all, take-at, take-nil}
+use Rattle.lines.proofs.Waiting.{empty-where-no-more, fits, left-where-more, nothing-waits}
+use Rattle.lines.specs.Line.{emptyLine, flushOutcome, flushed, hasMore, over, unwritten, waiting, writes}
+use Rattle.lines.specs.Midway.{comesTo, onceRead}
+use Rattle.lines.specs.Pieces.{Piece, Read, absorbed, behind, flushedOnly, pieceOf, readListing, stops, withLine}
 use Rattle.lines.specs.declared.line.Flushed.{Flushed}
 use Rattle.lines.specs.declared.line.Line.{Line}
 use Rattle.lines.specs.declared.listing.Listing.{Listing}
-
-abbrev Read : Type 0
-Read = ℕ × ℕ × Listing × List ℕ
-
--- so much taken and written, and a piece behind it
-abbrev onceRead : ℕ → ℕ → List ℕ → Piece → Read
-onceRead taken written output p = (taken + p .taken, written + length (p .text), p .next, take written output ++ over (p .text) (drop written output))
-
--- what the reading comes to
-abbrev pub comesTo : List ℕ → ℕ → Listing → List ℕ → ℕ → Read
-comesTo input taken l output written = onceRead taken written output (pieceOf l (drop taken input) (length output - written))
 
 pub begun : (input : List ℕ) (l : Listing) (output : List ℕ) → comesTo input 0 l output 0 ≡ readListing l input output
 unfolding readListing
@@ -56,6 +46,53 @@ in-two-parts front rest w t =
     ∙ ap (λ (d : List ℕ). front ++ d) (append-assoc w t (drop (length t) (drop (length w) rest)))
     ∙ sym (append-assoc front w (t ++ drop (length t) (drop (length w) rest)))
 
+-- a piece with text in front of it
+abbrev prefixed : List ℕ → Piece → Piece
+prefixed w p = record { taken = p .taken; text = w ++ p .text; next = p .next }
+
+-- where nothing waits, nothing is written: the end of the input leaves all as it is, and a byte is taken at once
+idle-at-end : (l : Listing) (room : ℕ) → pieceOf (withLine l emptyLine) [] room ≡ record { taken = 0; text = []; next = withLine l emptyLine }
+idle-at-end l room =
+    ap₂ {C = Piece} (λ (w : List ℕ) (x : Line). record { taken = 0; text = w; next = withLine l x }) (take-nil room) (empty-where-no-more emptyLine room (nothing-waits room))
+
+idle-byte : (l : Listing) (room : ℕ) → l .ended ≡ false → (a : ℕ) (rest : List ℕ) → pieceOf (withLine l emptyLine) (a ∷ rest) room ≡ behind [] (pieceOf (absorbed (withLine l emptyLine) a) rest room)
+idle-byte l room on a rest =
+    let same : room - 0 ≡ room = omega arith in
+    let goes : cond (l .ended) true (ltb room (waiting emptyLine)) ≡ false = ap₂ (λ (t b : Bool). cond t true b) on (nothing-waits room) in
+    let next : List ℕ → Line → Piece = λ (w : List ℕ) (x : Line). behind w (pieceOf (absorbed (withLine l x) a) rest (room - length w)) in
+    ap (λ (t : Bool). cond t (flushedOnly (withLine l emptyLine) room) (next (writes emptyLine room) (unwritten emptyLine room))) goes
+    ∙ ap₂ next (take-nil room) (empty-where-no-more emptyLine room (nothing-waits room))
+    ∙ ap (λ (n : ℕ). behind [] (pieceOf (absorbed (withLine l emptyLine) a) rest n)) same
+
+-- what waits and has room is written first, and then it is as if nothing had waited
+flush-first : (l : Listing) (room : ℕ) → l .ended ≡ false → ltb room (waiting (l .line)) ≡ false → (input : List ℕ) → pieceOf l input room ≡ prefixed (writes (l .line) room) (pieceOf (withLine l emptyLine) input (room - length (writes (l .line) room)))
+flush-first l room on none [] =
+    let w = writes (l .line) room in
+    ap₂ {C = Piece} (λ (t : List ℕ) (x : Line). record { taken = 0; text = t; next = withLine l x }) (sym (append-nil w)) (empty-where-no-more (l .line) room none)
+    ∙ ap (prefixed w) (sym (idle-at-end l (room - length w)))
+flush-first l room on none (a ∷ rest) =
+    let w = writes (l .line) room in
+    let goes : stops l room ≡ false = ap₂ (λ (t b : Bool). cond t true b) on none in
+    let next : Line → Piece = λ (x : Line). behind w (pieceOf (absorbed (withLine l x) a) rest (room - length w)) in
+    ap (λ (t : Bool). cond t (flushedOnly l room) (next (unwritten (l .line) room))) goes
+    ∙ ap next (empty-where-no-more (l .line) room none)
+    ∙ ap (prefixed w) (sym (idle-byte l (room - length w) on a rest))
+
+-- a byte is taken, where nothing waits
+pub byte-taken : (input : List ℕ) (taken : ℕ) (l : Listing) (output : List ℕ) (written : ℕ) → taken < length input → l .line ≡ emptyLine → l .ended ≡ false → (m : Listing) → m ≡ absorbed l (getD input taken 0) → comesTo input (taken + 1) m output written ≡ comesTo input taken l output written
+byte-taken input taken l output written more empty on m next =
+    let a = getD input taken 0 in
+    let room = length output - written in
+    let idle : l ≡ withLine l emptyLine = ap (withLine l) empty in
+    let p = pieceOf (absorbed (withLine l emptyLine) a) (drop (taken + 1) input) room in
+    let first : drop taken input ≡ a ∷ drop (taken + 1) input = rw (add-one, drop-cons input taken 0) in
+    let one : taken + (p .taken + 1) ≡ taken + 1 + p .taken = omega arith in
+    ap (λ (x : Listing). comesTo input (taken + 1) x output written) (next ∙ ap (λ (x : Listing). absorbed x a) idle)
+    ∙ sym
+    (ap₂ (λ (x : Listing) (i : List ℕ). onceRead taken written output (pieceOf x i room)) idle first
+    ∙ ap (onceRead taken written output) (idle-byte l room on a (drop (taken + 1) input))
+    ∙ ap {B = Read} (λ (n : ℕ). (n, written + length (p .text), p .next, take written output ++ over (p .text) (drop written output))) one)
+
 module _ (l : Listing) (output : List ℕ) (written : ℕ) (inside : written ≤ length output) where
   short : length (said l output written) ≤ length (drop written output)
   short = omega (arith, fits (l .line) (length output - written), length-drop written output)
@@ -75,31 +112,26 @@ module _ (l : Listing) (output : List ℕ) (written : ℕ) (inside : written ≤
   regrouped : filled l output written ≡ (take written output ++ said l output written) ++ drop (length (said l output written)) (drop written output)
   regrouped = sym (append-assoc (take written output) (said l output written) (drop (length (said l output written)) (drop written output)))
 
-  turned : (taken : ℕ) (p : Piece) → onceRead taken written output (behind (said l output written) p) ≡ onceRead (taken + 1) (written + length (said l output written)) (filled l output written) p
+  turned : (taken : ℕ) (p : Piece) → onceRead taken written output (prefixed (said l output written) p) ≡ onceRead taken (written + length (said l output written)) (filled l output written) p
   turned taken p =
       let w = said l output written in
       let n = written + length w in
-      let one : taken + (p .taken + 1) ≡ taken + 1 + p .taken = omega arith in
       let more : written + length (w ++ p .text) ≡ n + length (p .text) = omega (arith, length-append w (p .text)) in
       let front : take n (filled l output written) ≡ take written output ++ w = ap (take n) regrouped ∙ take-at (take written output ++ w) (drop (length w) (drop written output)) n front-length in
       let rest : drop n (filled l output written) ≡ drop (length w) (drop written output) = ap (drop n) regrouped ∙ drop-at (take written output ++ w) (drop (length w) (drop written output)) n front-length in
-      ap₂ {C = Read} (λ (i j : ℕ). (i, j, p .next, take written output ++ over (w ++ p .text) (drop written output))) one more
-      ∙ ap {B = Read} (λ (o : List ℕ). (taken + 1 + p .taken, n + length (p .text), p .next, o))
+      ap {B = Read} (λ (j : ℕ). (taken + p .taken, j, p .next, take written output ++ over (w ++ p .text) (drop written output))) more
+      ∙ ap {B = Read} (λ (o : List ℕ). (taken + p .taken, n + length (p .text), p .next, o))
       (in-two-parts (take written output) (drop written output) w (p .text)
       ∙ ap₂ (λ (a b : List ℕ). a ++ over (p .text) b) (sym front) (sym rest))
 
-  -- a turn: a byte is taken, and what waited is written
-  goes-on : (input : List ℕ) (taken : ℕ) → taken < length input → stops l (length output - written) ≡ false → comesTo input taken l output written ≡ comesTo input (taken + 1) (absorbed (left l output written) (getD input taken 0)) (filled l output written) (written + length (said l output written))
-  goes-on input taken more on =
-      let room = length output - written in
+  -- all that waits is written, and the reading comes to the same
+  pub goes-on : (input : List ℕ) (taken : ℕ) → l .ended ≡ false → ltb (length output - written) (waiting (l .line)) ≡ false → comesTo input taken (withLine l emptyLine) (filled l output written) (written + length (said l output written)) ≡ comesTo input taken l output written
+  goes-on input taken on none =
       let w = said l output written in
-      let next = absorbed (left l output written) (getD input taken 0) in
-      let first : drop taken input ≡ getD input taken 0 ∷ drop (taken + 1) input = rw (add-one, drop-cons input taken 0) in
-      let less : room - length w ≡ length (filled l output written) - (written + length w) = omega (arith, filled-length) in
-      ap (λ (i : List ℕ). onceRead taken written output (pieceOf l i room)) first
-      ∙ ap (λ (t : Bool). onceRead taken written output (cond t (flushedOnly l room) (behind w (pieceOf next (drop (taken + 1) input) (room - length w))))) on
-      ∙ turned taken (pieceOf next (drop (taken + 1) input) (room - length w))
-      ∙ ap (λ (n : ℕ). onceRead (taken + 1) (written + length w) (filled l output written) (pieceOf next (drop (taken + 1) input) n)) less
+      let room = length output - written in
+      let less : length (filled l output written) - (written + length w) ≡ room - length w = omega (arith, filled-length) in
+      ap (λ (n : ℕ). onceRead taken (written + length w) (filled l output written) (pieceOf (withLine l emptyLine) (drop taken input) n)) less
+      ∙ sym (ap (onceRead taken written output) (flush-first l room on none (drop taken input)) ∙ turned taken _)
 
   -- no turn more
   ends-with : (taken : ℕ) (p : Piece) → p ≡ flushedOnly l (length output - written) → onceRead taken written output p ≡ (taken, written + length (said l output written), left l output written, filled l output written)
@@ -189,10 +221,15 @@ module _ (l : Listing) (output : List ℕ) (written : ℕ) (inside : written ≤
       let b = ltb (length output - written) (waiting (l .line)) in
       stopped taken m e ∙ sym (stops-here l output written inside input taken more (ap (λ (t : Bool). cond t true b) (sym (ended-is m e) ∙ end)))
 
-  pub one-turn : (input : List ℕ) (taken : ℕ) (m n : Listing) → taken < length input → m ≡ withLine l (r .line) → hasMore (r .line) ≡ false → m .ended ≡ false → n ≡ absorbed m (getD input taken 0) → comesTo input (taken + 1) n (back output written ys) (written + r .count) ≡ comesTo input taken l output written
-  one-turn input taken m n more e none going next =
-      let w = said l output written in
-      let on = ap₂ (λ (t b : Bool). cond t true b) (sym (ended-is m e) ∙ going) (sym more-is ∙ none) in
-      ap₂ (λ (o : List ℕ) (k : ℕ). comesTo input (taken + 1) n o (written + k)) part-filled counted
-      ∙ ap (λ (x : Listing). comesTo input (taken + 1) x (filled l output written) (written + length w)) (next ∙ ap (λ (x : Listing). absorbed x (getD input taken 0)) (left-is m e))
-      ∙ sym (goes-on l output written inside input taken more on)
+  pub flushed-on : (input : List ℕ) (taken : ℕ) (m : Listing) → m ≡ withLine l (r .line) → hasMore (r .line) ≡ false → m .ended ≡ false → comesTo input taken m (back output written ys) (written + r .count) ≡ comesTo input taken l output written
+  flushed-on input taken m e none going =
+      let room = length output - written in
+      let no-more = sym more-is ∙ none in
+      ap₂ (λ (o : List ℕ) (k : ℕ). comesTo input taken m o (written + k)) part-filled counted
+      ∙ ap (λ (x : Listing). comesTo input taken x (filled l output written) (written + length (said l output written)))
+      (left-is m e ∙ ap (withLine l) (empty-where-no-more (l .line) room no-more))
+      ∙ goes-on l output written inside input taken (sym (ended-is m e) ∙ going) no-more
+
+  pub line-is-empty : (m : Listing) → m ≡ withLine l (r .line) → hasMore (r .line) ≡ false → m .line ≡ emptyLine
+  line-is-empty m e none =
+      ap (λ (x : Listing). x .line) e ∙ line-left ∙ empty-where-no-more (l .line) (length output - written) (sym more-is ∙ none)

@@ -7,10 +7,9 @@ use Prim.Native.Nat.{ℕ, zero, suc, _+_, _≤_, _<_}
 use native.Mathlib.Omega.{arith}
 use borrow.Author.Tests.{le-ltb, leb-false, leb-true, lt-ltb, ltb-false, ltb-true}
 use lib.Dec.{leb, ltb}
-use lib.ListN.{getD, length, length-take}
-use lib.Seq.{length-take-le, take-all}
-use Rattle.lines.proofs.Memory.{from-length}
-use Rattle.lines.specs.Line.{bytesFrom, hasMore, pending, unwritten, waiting, writes}
+use lib.ListN.{getD, length, length-append, length-take}
+use Rattle.lines.proofs.Memory.{from-length, written-and-waiting}
+use Rattle.lines.specs.Line.{bytesFrom, emptyLine, hasMore, pending, unwritten, waiting, writes}
 use Rattle.lines.specs.declared.line.Line.{Line}
 
 -- the place behind the last byte that waits: the length, but never behind the 96th
@@ -74,8 +73,19 @@ pub fits : (l : Line) (room : ℕ) → length (writes l room) ≤ room
 fits l room = omega (arith, length-take room (pending l))
 
 pub left-where-more : (l : Line) (room : ℕ) → hasMore (unwritten l room) ≡ ltb room (waiting l)
-left-where-more l room =
-    sym
-    (same-test room (waiting l) 0 (waiting (unwritten l room))
-    (λ more. omega (arith, length-take-le room (pending l) (omega (arith, how-many l))))
-    (λ enough. omega (arith, how-many l, ap length (take-all room (pending l) (omega (arith, how-many l))))))
+left-where-more l room = by-room (ltb room (waiting l)) refl
+  where
+    by-room : (t : Bool) → ltb room (waiting l) ≡ t → hasMore (cond t (record { bytes = l .bytes; at = l .at + room; len = l .len }) emptyLine) ≡ t
+    by-room true more = lt-ltb 0 (waiting (record { bytes = l .bytes; at = l .at + room; len = l .len })) (omega (arith, ltb-true room (waiting l) more))
+    by-room false none = refl
+
+-- what is written and what is left are together what waited
+pub written-and-left : (l : Line) (room : ℕ) → waiting (unwritten l room) + length (writes l room) ≡ waiting l
+written-and-left l room =
+    omega (arith, how-many l, how-many (unwritten l room), ap length (written-and-waiting l room), length-append (writes l room) (pending (unwritten l room)))
+
+pub empty-where-no-more : (l : Line) (room : ℕ) → ltb room (waiting l) ≡ false → unwritten l room ≡ emptyLine
+empty-where-no-more l room none = rw none refl
+
+pub nothing-waits : (room : ℕ) → ltb room (waiting emptyLine) ≡ false
+nothing-waits room = le-ltb room 0 (omega arith)

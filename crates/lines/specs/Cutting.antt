@@ -1,14 +1,14 @@
 -- The listing of a stream that comes in pieces of any size and goes into outputs of any size: what is not taken is offered
 -- again, and what was not written waits.
 use Prim.Native.Nat.{ℕ}
-use mathlib.Core.Bool.{Bool, true, cond}
+use mathlib.Core.Bool.{true, cond}
 use mathlib.Core.List.{List, [], _∷_, _++_}
 use mathlib.Core.Logic.{_⊎_}
 use mathlib.Core.Path.{_≡_}
 use lib.ListN.{drop, take}
 use Rattle.lines.specs.Line.{pending}
 use Rattle.lines.specs.Listing.{listFrom}
-use Rattle.lines.specs.Pieces.{Piece, endedListing, pieceOf}
+use Rattle.lines.specs.Pieces.{endedListing, pieceOf}
 use Rattle.lines.specs.declared.listing.Half.{Half}
 use Rattle.lines.specs.declared.listing.Half.the-variants as half
 use Rattle.lines.specs.declared.listing.Listing.{Listing}

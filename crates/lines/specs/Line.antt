@@ -3,20 +3,17 @@ use Prim.Native.Nat.{ℕ, zero, suc, _+_, _-_}
 use mathlib.Core.Bool.{Bool, cond}
 use mathlib.Core.List.{List, [], _∷_, _++_}
 use lib.Dec.{leb, ltb}
-use lib.ListN.{drop, getD, length, replicate, set, take}
+use lib.ListN.{drop, getD, length, replicate, take}
+use Rattle.lines.specs.Put.{putAll}
 use Rattle.lines.specs.declared.line.Flushed.{Flushed}
 use Rattle.lines.specs.declared.line.Line.{Line}
 
 abbrev pub emptyLine : Line
 emptyLine = record { bytes = replicate 96 0; at = 0; len = 0 }
 
--- a byte more, where there is a place for it
-abbrev pub put : Line → ℕ → Line
-put l b = cond (leb 96 (l .len)) l (record { bytes = set (l .bytes) (l .len) b; at = l .at; len = l .len + 1 })
-
-abbrev pub putAll : Line → List ℕ → Line
-putAll l [] = l
-putAll l (b ∷ bs) = putAll (put l b) bs
+-- the line with these bytes behind what it has
+abbrev pub says : Line → List ℕ → Line
+says l bs = record { bytes = putAll (l .len, l .bytes) bs .1; at = l .at; len = putAll (l .len, l .bytes) bs .0 }
 
 -- the n bytes from a place on
 abbrev pub bytesFrom : List ℕ → ℕ → ℕ → List ℕ
@@ -33,12 +30,12 @@ pending l = bytesFrom (l .bytes) (l .at) (waiting l)
 abbrev pub hasMore : Line → Bool
 hasMore l = ltb 0 (waiting l)
 
--- what is written where there is so much room, and what is left of the line then
+-- what is written where there is so much room, and what is left of the line then: a line of which nothing is left is empty
 abbrev pub writes : Line → ℕ → List ℕ
 writes l room = take room (pending l)
 
 abbrev pub unwritten : Line → ℕ → Line
-unwritten l room = record { bytes = l .bytes; at = l .at + length (writes l room); len = l .len }
+unwritten l room = cond (ltb room (waiting l)) (record { bytes = l .bytes; at = l .at + room; len = l .len }) emptyLine
 
 -- bytes in front of what was there
 abbrev pub over : List ℕ → List ℕ → List ℕ

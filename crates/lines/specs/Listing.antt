@@ -9,7 +9,7 @@ use Rattle.code.specs.Outcome.{Outcome, answer, refused}
 use Rattle.code.specs.Write.{pair}
 use Rattle.event.specs.declared.event.Cea608.{Cea608}
 use Rattle.lines.specs.Words.{lastLine, line, lineOf, refusedWords}
-use Rattle.receiver.specs.Receiver.{Stepped, fresh, step}
+use Rattle.receiver.specs.Receiver.{fresh, step}
 use Rattle.receiver.specs.declared.state.Cea608State.{Cea608State}
 
 abbrev pub mostPairs : ℕ

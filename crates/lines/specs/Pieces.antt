@@ -1,7 +1,7 @@
 -- The listing in pieces: what a state says yet, what a byte does to it, and how much input is taken and text written where
 -- there is so much of either. Any state may be handed in; one that no call leaves is listed as it stands.
 use Prim.Native.Nat.{ℕ, _+_, _-_}
-use mathlib.Core.Bool.{Bool, true, false, cond, _&&_, not}
+use mathlib.Core.Bool.{Bool, true, false, cond}
 use mathlib.Core.List.{List, [], _∷_, _++_}
 use mathlib.Core.Option.{Option}
 use lib.Dec.{leb, ltb}
@@ -9,7 +9,7 @@ use lib.ListN.{length}
 use Rattle.code.specs.Outcome.{Outcome, answer, refused}
 use Rattle.code.specs.Write.{pair}
 use Rattle.event.specs.declared.event.Cea608.{Cea608}
-use Rattle.lines.specs.Line.{emptyLine, hasMore, over, putAll, unwritten, waiting, writes}
+use Rattle.lines.specs.Line.{emptyLine, hasMore, over, says, unwritten, waiting, writes}
 use Rattle.lines.specs.Listing.{mostPairs}
 use Rattle.lines.specs.Words.{lastLine, line, lineOf, refusedWords}
 use Rattle.lines.specs.declared.line.Line.{Line}
@@ -20,8 +20,12 @@ use Rattle.lines.specs.declared.listing.Progress.{Progress}
 use Rattle.receiver.specs.Receiver.{Stepped, fresh, step}
 use Rattle.receiver.specs.declared.state.Cea608State.{Cea608State}
 
+-- between two pairs, with nothing that waits
+abbrev pub betweenPairs : Cea608State → ℕ → ℕ → Listing
+betweenPairs s k q = record { receiver = s; half = half.Absent; pairs = k; refused = q; ended = false; line = emptyLine }
+
 abbrev pub freshListing : Listing
-freshListing = record { receiver = fresh; half = half.Absent; pairs = 0; refused = 0; ended = false; line = emptyLine }
+freshListing = betweenPairs fresh 0 0
 
 -- one refusal more. More than one behind the limit of pairs there cannot be.
 abbrev pub oneMore : ℕ → ℕ
@@ -39,7 +43,7 @@ ending l begun words q = record {
   pairs = l .pairs;
   refused = q;
   ended = true;
-  line = putAll begun (words ++ lastLine (l .pairs) q);
+  line = says begun (words ++ lastLine (l .pairs) q);
 }
 
 abbrev pub refusedBy : ℕ → Listing → Line → Listing
@@ -55,18 +59,16 @@ withHalf l a = record {
   line = l .line;
 }
 
-abbrev pub pairRead : Listing → Cea608State → ℕ → Line → Listing
-pairRead l receiver q x = record {
-  receiver = receiver;
+-- the line of a pair waits
+abbrev pub afterPair : Listing → Stepped → Listing
+afterPair l r = record {
+  receiver = r .1;
   half = half.Absent;
   pairs = l .pairs + 1;
-  refused = q;
+  refused = counted (r .0) (l .refused);
   ended = l .ended;
-  line = x;
+  line = says emptyLine (lineOf (l .pairs) (r .0));
 }
-
-abbrev pub afterPair : Listing → Stepped → Listing
-afterPair l r = pairRead l (r .1) (counted (r .0) (l .refused)) (putAll emptyLine (lineOf (l .pairs) (r .0)))
 
 abbrev pub withByte : Listing → Half → ℕ → Listing
 withByte l half.Absent a = withHalf l a
@@ -115,13 +117,17 @@ pieceOf l (a ∷ rest) room =
     cond (stops l room) (flushedOnly l room)
     (behind (writes (l .line) room) (pieceOf (absorbed (withLine l (unwritten (l .line) room)) a) rest (room - length (writes (l .line) room))))
 
-abbrev pub readOutcome : Progress → List ℕ → ℕ × ℕ × Listing × List ℕ
+-- how many bytes were taken and written, the state, and the output
+abbrev pub Read : Type 0
+Read = ℕ × ℕ × Listing × List ℕ
+
+abbrev pub readOutcome : Progress → List ℕ → Read
 readOutcome r output = (r .taken, r .written, r .listing, output)
 
-abbrev pub readAs : Piece → List ℕ → ℕ × ℕ × Listing × List ℕ
+abbrev pub readAs : Piece → List ℕ → Read
 readAs p output = (p .taken, length (p .text), p .next, over (p .text) output)
 
-unfoldable pub readListing : Listing → List ℕ → List ℕ → ℕ × ℕ × Listing × List ℕ
+unfoldable pub readListing : Listing → List ℕ → List ℕ → Read
 readListing l input output = readAs (pieceOf l input (length output)) output
 
 -- nothing more will come

@@ -58,6 +58,10 @@ modeWord mode.RollUp4 = points "roll4"
 abbrev space : ℕ
 space = 0x20
 
+-- a word with its space, and the channel that it is for
+abbrev pub wordFor : List ℕ → Channel → List ℕ
+wordFor word ch = word ++ (channelDigit ch ∷ [])
+
 abbrev pub eventWords : Cea608 → List ℕ
 eventWords (event.Text t) =
     points "text " ++ (channelDigit (t .channel) ∷ space ∷ flagDigit (t .«needs_backspace») ∷ space ∷ (characterWord (t .char1) ++ (space ∷ characterWord (t .char2))))

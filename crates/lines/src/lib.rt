@@ -2,6 +2,7 @@
 
 pub mod line;
 pub mod listing;
+pub mod put;
 pub mod words;
 
 pub use line::Line;

@@ -1,9 +1,14 @@
 // The listing's state, and what a piece of input does to it.
 ghost use mathlib.Core.Path.{_≡_};
 ghost use Prim.Native.Nat.{_<_};
-ghost use Rattle.lines.specs.Pieces.{absorbed, afterPair, endedListing, freshListing, isDone, oneMore, pairRead, readListing, readOutcome, refusedBy, withLine};
+ghost use Rattle.lines.specs.Midway.{Between, Further};
+ghost use Rattle.lines.specs.Pieces.{absorbed, afterPair, betweenPairs, counted, endedListing, freshListing, isDone, oneMore, readListing, readOutcome, refusedBy, withLine};
+ghost use Rattle.receiver.specs.Heard.{heardOutcome};
 ghost use Rattle.receiver.specs.Receiver.{step};
 use crate::line::Line;
+use crate::words::put_last_line;
+use crate::words::put_line_of;
+use crate::words::put_refused_line;
 use code::Pair;
 use receiver::Cea608State;
 use receiver::Heard;
@@ -41,19 +46,37 @@ pub(crate) fn one_more(refused: u32) -> u32
     refused
 }
 
+// The refusals with that of a pair, if it was refused.
+pub(crate) fn count_refusal(refused: u32, heard: Heard) -> u32
+    ensures { λ r. ⌜ r ≡ counted (heardOutcome heard) refused ⌝ }
+{
+    match heard {
+        Heard::Event(_) => refused,
+        Heard::Nothing => refused,
+        Heard::InvalidParity => one_more(refused),
+    }
+}
+
+// The listing between two pairs, with nothing that waits.
+pub(crate) fn between_pairs(receiver: Cea608State, pairs: u32, refused: u32) -> Listing
+    ensures { λ r. ⌜ r ≡ betweenPairs receiver pairs refused ⌝ }
+{
+    Listing {
+        receiver: receiver,
+        half: Half::Absent,
+        pairs: pairs,
+        refused: refused,
+        ended: false,
+        line: Line::new(),
+    }
+}
+
 impl Listing {
     // Nothing read yet.
     pub fn new() -> Listing
         ensures { λ r. ⌜ r ≡ freshListing ⌝ }
     {
-        Listing {
-            receiver: Cea608State::new(),
-            half: Half::Absent,
-            pairs: 0,
-            refused: 0,
-            ended: false,
-            line: Line::new(),
-        }
+        between_pairs(Cea608State::new(), 0, 0)
     }
 
     // The stream ends with a refusal by this number, behind what the line has.
@@ -63,58 +86,48 @@ impl Listing {
         let receiver = self.receiver;
         let pairs = self.pairs;
         let refused = one_more(self.refused);
-        let said = line.put_refused_line(pairs, refusal);
-        let last = said.put_last_line(pairs, refused);
+        let mut bytes = line.bytes;
+        let said = put_refused_line(&mut bytes, line.len, pairs, refusal);
+        let len = put_last_line(&mut bytes, said, pairs, refused);
         Listing {
             receiver: receiver,
             half: Half::Absent,
             pairs: pairs,
             refused: refused,
             ended: true,
-            line: last,
+            line: Line {
+                bytes: bytes,
+                at: line.at,
+                len: len,
+            },
         }
     }
 
-    // The listing after a pair that was decoded, with the line and the count of refusals that it gives.
-    pub(crate) fn with_pair(self, receiver: Cea608State, refused: u32, line: Line) -> Listing
-        requires { ⌜ self .pairs < 16777216 ⌝ }
-        ensures { λ r. ⌜ r ≡ pairRead self receiver refused line ⌝ }
-    {
-        let pairs = self.pairs;
-        let ended = self.ended;
-        Listing {
-            receiver: receiver,
-            half: Half::Absent,
-            pairs: pairs + 1,
-            refused: refused,
-            ended: ended,
-            line: line,
-        }
-    }
-
-    // The listing after a whole pair.
+    // The listing after a whole pair, its line waiting.
     pub(crate) fn after_pair(self, pair: Pair) -> Listing
         requires { ⌜ self .pairs < 16777216 ⌝ }
         ensures { λ r. ⌜ r ≡ afterPair self (step (self .receiver) pair) ⌝ }
     {
         let pairs = self.pairs;
         let refused = self.refused;
+        let ended = self.ended;
         let receiver = self.receiver;
         let decoded = receiver.decode(pair);
         let next = decoded.state;
         let answer = decoded.answer;
-        match answer {
-            Heard::Event(event) => self.with_pair(
-                next,
-                refused,
-                Line::new().put_event_line(pairs, event),
-            ),
-            Heard::Nothing => self.with_pair(next, refused, Line::new()),
-            Heard::InvalidParity => self.with_pair(
-                next,
-                one_more(refused),
-                Line::new().put_refused_line(pairs, 1),
-            ),
+        let mut bytes = [0; 96];
+        let len = put_line_of(&mut bytes, 0, pairs, answer);
+        Listing {
+            receiver: next,
+            half: Half::Absent,
+            pairs: pairs + 1,
+            refused: count_refusal(refused, answer),
+            ended: ended,
+            line: Line {
+                bytes: bytes,
+                at: 0,
+                len: len,
+            },
         }
     }
 
@@ -157,15 +170,23 @@ impl Listing {
         let pairs = self.pairs;
         let refused = self.refused;
         let line = self.line;
+        let mut bytes = line.bytes;
         match half {
-            Half::Absent => Listing {
-                receiver: receiver,
-                half: Half::Absent,
-                pairs: pairs,
-                refused: refused,
-                ended: true,
-                line: line.put_last_line(pairs, refused),
-            },
+            Half::Absent => {
+                let len = put_last_line(&mut bytes, line.len, pairs, refused);
+                Listing {
+                    receiver: receiver,
+                    half: Half::Absent,
+                    pairs: pairs,
+                    refused: refused,
+                    ended: true,
+                    line: Line {
+                        bytes: bytes,
+                        at: line.at,
+                        len: len,
+                    },
+                }
+            }
             Half::Byte(_) => self.refused_by(9, line),
         }
     }
@@ -200,6 +221,45 @@ impl Listing {
         }
     }
 
+    // Takes whole pairs and writes their lines straight into the output, as long as there is room for any line. Nothing
+    // waits before it or behind it.
+    pub(crate) fn read_pairs(self, input: &[u8], from: usize, out: &mut [u8], at: usize) -> Progress
+        requires { ⌜ Between (now input) from self (now out) at ⌝ }
+        ensures { λ r. ⌜ Further (now (input .entry)) from self (now (out .entry)) at r (now (out .exit)) ⌝ }
+    {
+        let half = self.half;
+        let mut receiver = self.receiver;
+        let mut pairs = self.pairs;
+        let mut refused = self.refused;
+        let mut taken = from;
+        let mut written = at;
+        match half {
+            Half::Absent => {}
+            Half::Byte(_) => {
+                return Progress {
+                    taken: from,
+                    written: at,
+                    listing: self,
+                };
+            }
+        }
+        while 2 <= input.len() - taken && 96 <= out.len() - written && pairs < 16_777_216 {
+            let decoded = receiver.decode(Pair(input[taken], input[taken + 1]));
+            let next = decoded.state;
+            let answer = decoded.answer;
+            written = put_line_of(out, written, pairs, answer);
+            refused = count_refusal(refused, answer);
+            receiver = next;
+            pairs += 1;
+            taken += 2;
+        }
+        Progress {
+            taken: taken,
+            written: written,
+            listing: between_pairs(receiver, pairs, refused),
+        }
+    }
+
     // Takes bytes of the input and writes text into the output, as far as there is room. What waits goes first.
     pub fn read(self, input: &[u8], output: &mut [u8]) -> Progress
         ensures { λ r. ⌜ readOutcome r (now (output .exit)) ≡ readListing self (now (input .entry)) (now (output .entry)) ⌝ }
@@ -213,22 +273,22 @@ impl Listing {
             let rest = flushed.line;
             written += flushed.count;
             listing = listing.with_line(rest);
-            if rest.has_more() {
+            if rest.has_more() || listing.ended {
                 return Progress {
                     taken: taken,
                     written: written,
                     listing: listing,
                 };
             }
-            if listing.ended {
-                return Progress {
-                    taken: taken,
-                    written: written,
-                    listing: listing,
-                };
+            let pairs = listing.read_pairs(input, taken, output, written);
+            let next = pairs.listing;
+            taken = pairs.taken;
+            written = pairs.written;
+            listing = next;
+            if taken < input.len() {
+                listing = listing.absorb(input[taken]);
+                taken += 1;
             }
-            listing = listing.absorb(input[taken]);
-            taken += 1;
         }
         let line = listing.line;
         let flushed = line.flush(&mut output[written..]);

@@ -1,9 +1,13 @@
-// The words of the listing's lines, put behind what a line has.
+// The words of the listing's lines, put into lent memory from a place on.
 ghost use mathlib.Core.Path.{_≡_};
 ghost use Rattle.event.specs.declared.event.Cea608.the-variants as event;
-ghost use Rattle.lines.specs.Line.{putAll};
-ghost use Rattle.lines.specs.Words.{channelDigit, characterWord, eventWords, flagDigit, lastLine, line, modeWord, refusedWords};
-use crate::line::Line;
+ghost use Rattle.lines.specs.Put.{putAll};
+ghost use Rattle.lines.specs.Words.{channelDigit, characterWord, eventWords, flagDigit, lastLine, line, lineOf, modeWord, refusedWords, wordFor};
+ghost use Rattle.receiver.specs.Heard.{heardOutcome};
+use crate::put::put;
+use crate::put::put_decimal;
+use crate::put::put_hex;
+use crate::put::put_word;
 use code::Channel;
 use code::Character;
 use code::MidRow;
@@ -11,6 +15,7 @@ use code::PreambleAddressCode;
 use event::Cea608;
 use event::Mode;
 use event::Text;
+use receiver::Heard;
 
 pub(crate) fn channel_digit(channel: Channel) -> u8
     ensures { λ r. ⌜ r ≡ channelDigit channel ⌝ }
@@ -27,119 +32,150 @@ pub(crate) fn flag_digit(flag: bool) -> u8
     0x30
 }
 
-impl Line {
-    // A code point as four hex digits, or a dash.
-    pub(crate) fn put_character(self, character: Character) -> Line
-        ensures { λ r. ⌜ r ≡ putAll self (characterWord character) ⌝ }
-    {
-        match character {
-            Character::Absent => self.put_word(b"-"),
-            Character::Point(c) => self.put_hex(c),
-        }
+// A code point as four hex digits, or a dash.
+pub(crate) fn put_character(out: &mut [u8], at: usize, character: Character) -> usize
+    ensures { λ r. ⌜ (r, now (out .exit)) ≡ putAll (at, now (out .entry)) (characterWord character) ⌝ }
+{
+    match character {
+        Character::Absent => put_word(out, at, b"-"),
+        Character::Point(c) => put_hex(out, at, c),
     }
+}
 
-    pub(crate) fn put_mode(self, mode: Mode) -> Line
-        ensures { λ r. ⌜ r ≡ putAll self (modeWord mode) ⌝ }
-    {
-        match mode {
-            Mode::PopOn => self.put_word(b"pop"),
-            Mode::PaintOn => self.put_word(b"paint"),
-            Mode::RollUp2 => self.put_word(b"roll2"),
-            Mode::RollUp3 => self.put_word(b"roll3"),
-            Mode::RollUp4 => self.put_word(b"roll4"),
-        }
+pub(crate) fn put_mode(out: &mut [u8], at: usize, mode: Mode) -> usize
+    ensures { λ r. ⌜ (r, now (out .exit)) ≡ putAll (at, now (out .entry)) (modeWord mode) ⌝ }
+{
+    match mode {
+        Mode::PopOn => put_word(out, at, b"pop"),
+        Mode::PaintOn => put_word(out, at, b"paint"),
+        Mode::RollUp2 => put_word(out, at, b"roll2"),
+        Mode::RollUp3 => put_word(out, at, b"roll3"),
+        Mode::RollUp4 => put_word(out, at, b"roll4"),
     }
+}
 
-    pub(crate) fn put_text(self, text: Text) -> Line
-        ensures { λ r. ⌜ r ≡ putAll self (eventWords (event.Text text)) ⌝ }
-    {
-        let channel = text.channel;
-        let replaces = text.needs_backspace;
-        let first = text.char1;
-        let second = text.char2;
-        let begun = self.put_word(b"text ")
-            .put(channel_digit(channel))
-            .put(0x20);
-        let flagged = begun.put(flag_digit(replaces)).put(0x20);
-        flagged.put_character(first).put(0x20).put_character(second)
-    }
+// A word with its space, and the channel that it is for.
+pub(crate) fn put_for(out: &mut [u8], at: usize, word: &[u8], channel: Channel) -> usize
+    ensures { λ r. ⌜ (r, now (out .exit)) ≡ putAll (at, now (out .entry)) (wordFor (now (word .entry)) channel) ⌝ }
+{
+    let said = put_word(out, at, word);
+    put(out, said, channel_digit(channel))
+}
 
-    pub(crate) fn put_row(self, channel: Channel, preamble: PreambleAddressCode) -> Line
-        ensures { λ r. ⌜ r ≡ putAll self (eventWords (event.Preamble channel preamble)) ⌝ }
-    {
-        let begun = self.put_word(b"row ").put(channel_digit(channel)).put(0x20);
-        let styled = begun.put_decimal(preamble.row() as u32).put(0x20);
-        let underlined = styled.put_decimal(preamble.code().style() as u32).put(0x20);
-        underlined.put(flag_digit(preamble.underline()))
-    }
+pub(crate) fn put_text(out: &mut [u8], at: usize, text: Text) -> usize
+    ensures { λ r. ⌜ (r, now (out .exit)) ≡ putAll (at, now (out .entry)) (eventWords (event.Text text)) ⌝ }
+{
+    let channel = text.channel;
+    let first = text.char1;
+    let second = text.char2;
+    let said = put_for(out, at, b"text ", channel);
+    let spaced = put(out, said, 0x20);
+    let flagged = put(out, spaced, flag_digit(text.needs_backspace));
+    let begun = put(out, flagged, 0x20);
+    let half = put_character(out, begun, first);
+    let between = put(out, half, 0x20);
+    put_character(out, between, second)
+}
 
-    pub(crate) fn put_mid(self, channel: Channel, mid_row: MidRow) -> Line
-        ensures { λ r. ⌜ r ≡ putAll self (eventWords (event.MidRowChange channel «mid_row»)) ⌝ }
-    {
-        let begun = self.put_word(b"mid ").put(channel_digit(channel)).put(0x20);
-        let coloured = begun.put_decimal(mid_row.number() as u32).put(0x20);
-        coloured.put(flag_digit(mid_row.underline()))
-    }
+pub(crate) fn put_row(
+    out: &mut [u8],
+    at: usize,
+    channel: Channel,
+    preamble: PreambleAddressCode,
+) -> usize
+    ensures { λ r. ⌜ (r, now (out .exit)) ≡ putAll (at, now (out .entry)) (eventWords (event.Preamble channel preamble)) ⌝ }
+{
+    let said = put_for(out, at, b"row ", channel);
+    let spaced = put(out, said, 0x20);
+    let row = put_decimal(out, spaced, preamble.row() as u32);
+    let between = put(out, row, 0x20);
+    let style = put_decimal(out, between, preamble.code().style() as u32);
+    let behind = put(out, style, 0x20);
+    put(out, behind, flag_digit(preamble.underline()))
+}
 
-    pub(crate) fn put_event(self, event: Cea608) -> Line
-        ensures { λ r. ⌜ r ≡ putAll self (eventWords event) ⌝ }
-    {
-        match event {
-            Cea608::Text(text) => self.put_text(text),
-            Cea608::NewMode(channel, mode) => {
-                self.put_word(b"mode ")
-                    .put(channel_digit(channel))
-                    .put(0x20)
-                    .put_mode(mode)
-            }
-            Cea608::EraseDisplay(channel) => self.put_word(b"erase ").put(channel_digit(channel)),
-            Cea608::EraseNonDisplay(channel) => self.put_word(b"erasehidden ")
-                .put(channel_digit(channel)),
-            Cea608::CarriageReturn(channel) => self.put_word(b"return ")
-                .put(channel_digit(channel)),
-            Cea608::Backspace(channel) => self.put_word(b"back ").put(channel_digit(channel)),
-            Cea608::EndOfCaption(channel) => self.put_word(b"end ").put(channel_digit(channel)),
-            Cea608::TabOffset(channel, columns) => {
-                self.put_word(b"tab ")
-                    .put(channel_digit(channel))
-                    .put(0x20)
-                    .put_decimal(columns as u32)
-            }
-            Cea608::DeleteToEndOfRow(channel) => self.put_word(b"delete ")
-                .put(channel_digit(channel)),
-            Cea608::Preamble(channel, preamble) => self.put_row(channel, preamble),
-            Cea608::MidRowChange(channel, mid_row) => self.put_mid(channel, mid_row),
-        }
-    }
+pub(crate) fn put_mid(out: &mut [u8], at: usize, channel: Channel, mid_row: MidRow) -> usize
+    ensures { λ r. ⌜ (r, now (out .exit)) ≡ putAll (at, now (out .entry)) (eventWords (event.MidRowChange channel «mid_row»)) ⌝ }
+{
+    let said = put_for(out, at, b"mid ", channel);
+    let spaced = put(out, said, 0x20);
+    let colour = put_decimal(out, spaced, mid_row.number() as u32);
+    let behind = put(out, colour, 0x20);
+    put(out, behind, flag_digit(mid_row.underline()))
+}
 
-    // The line of an event of the pair with this number.
-    pub(crate) fn put_event_line(self, number: u32, event: Cea608) -> Line
-        ensures { λ r. ⌜ r ≡ putAll self (line number (eventWords event)) ⌝ }
-    {
-        self.put_decimal(number)
-            .put(0x20)
-            .put_event(event)
-            .put(0x0A)
-    }
+pub(crate) fn put_new_mode(out: &mut [u8], at: usize, channel: Channel, mode: Mode) -> usize
+    ensures { λ r. ⌜ (r, now (out .exit)) ≡ putAll (at, now (out .entry)) (eventWords (event.NewMode channel mode)) ⌝ }
+{
+    let said = put_for(out, at, b"mode ", channel);
+    let spaced = put(out, said, 0x20);
+    put_mode(out, spaced, mode)
+}
 
-    // The line of a refusal at the pair with this number.
-    pub(crate) fn put_refused_line(self, number: u32, refusal: u32) -> Line
-        ensures { λ r. ⌜ r ≡ putAll self (line number (refusedWords refusal)) ⌝ }
-    {
-        self.put_decimal(number)
-            .put(0x20)
-            .put_word(b"refused ")
-            .put_decimal(refusal)
-            .put(0x0A)
-    }
+pub(crate) fn put_tab(out: &mut [u8], at: usize, channel: Channel, columns: u8) -> usize
+    ensures { λ r. ⌜ (r, now (out .exit)) ≡ putAll (at, now (out .entry)) (eventWords (event.TabOffset channel columns)) ⌝ }
+{
+    let said = put_for(out, at, b"tab ", channel);
+    let spaced = put(out, said, 0x20);
+    put_decimal(out, spaced, columns as u32)
+}
 
-    pub(crate) fn put_last_line(self, pairs: u32, refused: u32) -> Line
-        ensures { λ r. ⌜ r ≡ putAll self (lastLine pairs refused) ⌝ }
-    {
-        self.put_word(b"pairs ")
-            .put_decimal(pairs)
-            .put_word(b" refused ")
-            .put_decimal(refused)
-            .put(0x0A)
+pub(crate) fn put_event(out: &mut [u8], at: usize, event: Cea608) -> usize
+    ensures { λ r. ⌜ (r, now (out .exit)) ≡ putAll (at, now (out .entry)) (eventWords event) ⌝ }
+{
+    match event {
+        Cea608::Text(text) => put_text(out, at, text),
+        Cea608::NewMode(channel, mode) => put_new_mode(out, at, channel, mode),
+        Cea608::EraseDisplay(channel) => put_for(out, at, b"erase ", channel),
+        Cea608::EraseNonDisplay(channel) => put_for(out, at, b"erasehidden ", channel),
+        Cea608::CarriageReturn(channel) => put_for(out, at, b"return ", channel),
+        Cea608::Backspace(channel) => put_for(out, at, b"back ", channel),
+        Cea608::EndOfCaption(channel) => put_for(out, at, b"end ", channel),
+        Cea608::TabOffset(channel, columns) => put_tab(out, at, channel, columns),
+        Cea608::DeleteToEndOfRow(channel) => put_for(out, at, b"delete ", channel),
+        Cea608::Preamble(channel, preamble) => put_row(out, at, channel, preamble),
+        Cea608::MidRowChange(channel, mid_row) => put_mid(out, at, channel, mid_row),
     }
+}
+
+// The line of an event of the pair with this number.
+pub(crate) fn put_event_line(out: &mut [u8], at: usize, number: u32, event: Cea608) -> usize
+    ensures { λ r. ⌜ (r, now (out .exit)) ≡ putAll (at, now (out .entry)) (line number (eventWords event)) ⌝ }
+{
+    let numbered = put_decimal(out, at, number);
+    let spaced = put(out, numbered, 0x20);
+    let said = put_event(out, spaced, event);
+    put(out, said, 0x0A)
+}
+
+// The line of a refusal at the pair with this number.
+pub(crate) fn put_refused_line(out: &mut [u8], at: usize, number: u32, refusal: u32) -> usize
+    ensures { λ r. ⌜ (r, now (out .exit)) ≡ putAll (at, now (out .entry)) (line number (refusedWords refusal)) ⌝ }
+{
+    let numbered = put_decimal(out, at, number);
+    let spaced = put(out, numbered, 0x20);
+    let said = put_word(out, spaced, b"refused ");
+    let refused = put_decimal(out, said, refusal);
+    put(out, refused, 0x0A)
+}
+
+// The line of what a pair gave, if it gave anything.
+pub(crate) fn put_line_of(out: &mut [u8], at: usize, number: u32, heard: Heard) -> usize
+    ensures { λ r. ⌜ (r, now (out .exit)) ≡ putAll (at, now (out .entry)) (lineOf number (heardOutcome heard)) ⌝ }
+{
+    match heard {
+        Heard::Event(event) => put_event_line(out, at, number, event),
+        Heard::Nothing => at,
+        Heard::InvalidParity => put_refused_line(out, at, number, 1),
+    }
+}
+
+pub(crate) fn put_last_line(out: &mut [u8], at: usize, pairs: u32, refused: u32) -> usize
+    ensures { λ r. ⌜ (r, now (out .exit)) ≡ putAll (at, now (out .entry)) (lastLine pairs refused) ⌝ }
+{
+    let begun = put_word(out, at, b"pairs ");
+    let read = put_decimal(out, begun, pairs);
+    let said = put_word(out, read, b" refused ");
+    let counted = put_decimal(out, said, refused);
+    put(out, counted, 0x0A)
 }

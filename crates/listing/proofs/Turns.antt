@@ -2,16 +2,15 @@
 -- that a line has.
 -- Assumes nothing.
 use mathlib.Core.Bool.{Bool, true, false, cond}
-use mathlib.Core.List.{List, [], _∷_, _++_}
+use mathlib.Core.List.{List, [], _∷_}
 use mathlib.Core.Path.{_≡_, ap, _∙_}
-use Prim.Native.Nat.{ℕ, suc, _+_, _-_, _*_, _≤_, _<_}
+use Prim.Native.Nat.{ℕ, _+_, _-_, _*_, _≤_, _<_}
 use native.Mathlib.Omega.{arith}
-use lib.ListN.{drop, length, length-append, length-drop, length-take, take}
+use lib.ListN.{drop, length, length-append, length-drop, take}
 use lib.Seq.{length-take-le}
-use Rattle.lines.proofs.Waiting.{behind-96, fits, how-many}
-use Rattle.lines.specs.Line.{pending, unwritten, waiting, writes}
+use Rattle.lines.proofs.Waiting.{behind-96, fits, written-and-left}
+use Rattle.lines.specs.Line.{unwritten, waiting, writes}
 use Rattle.lines.specs.Pieces.{Piece, absorbed, behind, flushedOnly, pieceOf, readListing, readOutcome, stops, withLine}
-use Rattle.lines.specs.declared.line.Line.{Line}
 use Rattle.lines.specs.declared.listing.Listing.{Listing}
 use Rattle.lines.specs.declared.listing.Progress.{Progress}
 
@@ -29,7 +28,7 @@ flush-keeps : (l : Listing) (input : List ℕ) (room : ℕ) → Keeps l input ro
 flush-keeps l input room = record {
   taken = omega arith;
   written = fits (l .line) room;
-  less = omega (arith, length-take room (pending (l .line)), how-many (l .line));
+  less = omega (arith, written-and-left (l .line) room);
 }
 
 module _ (l : Listing) (a : ℕ) (rest : List ℕ) (room : ℕ) where
@@ -48,7 +47,7 @@ module _ (l : Listing) (a : ℕ) (rest : List ℕ) (room : ℕ) where
       record {
         taken = omega (arith, k .taken);
         written = omega (arith, k .written, both, fits (l .line) room);
-        less = omega (arith, k .less, both, behind-96 (next .line) 96 (omega arith), length-take room (pending (l .line)), how-many (l .line));
+        less = omega (arith, k .less, both, behind-96 (next .line) 96 (omega arith), written-and-left (l .line) room);
       }
 
   unless-stopped : Keeps next rest roomLeft later → (t : Bool) → Keeps l (a ∷ rest) room (cond t (flushedOnly l room) (behind (writes (l .line) room) later))

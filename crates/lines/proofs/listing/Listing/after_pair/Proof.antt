@@ -1,99 +1,36 @@
--- `lines::listing::Listing::after_pair` meets its contract, by what the receiver answered.
+-- `lines::listing::Listing::after_pair` meets its contract: the pair is decoded, and its line waits.
 -- Assumes nothing.
 use borrow.Author.Needs.{needs}
-use mathlib.Core.Path.{ap, ap₂, sym, _∙_}
-use Rattle.lines.specs.Line.{putAll}
-use Rattle.lines.specs.Pieces.{afterPair, pairRead}
-use Rattle.lines.specs.Words.{eventWords, line, refusedWords}
-use Rattle.lines.specs.declared.line.Line.{Line}
-use Rattle.receiver.specs.Heard.{heardOutcome}
-use Rattle.receiver.specs.declared.heard.Heard.{Heard}
+use mathlib.Core.Path.{ap, ap₂, _∙_}
+use Prim.Native.Nat.{ℕ, _+_}
+use Rattle.lines.specs.Pieces.{afterPair}
+use Rattle.lines.specs.Put.{Placed}
+use Rattle.lines.specs.declared.listing.Half.the-variants as half
+use Rattle.lines.specs.declared.listing.Listing.{Listing}
 use Rattle.lines.proofs.listing.Listing.after_pair.Statement.{statement}
 use Rattle.lines.proofs.listing.Listing.after_pair.Tie as tie
 
 decode-requires : tie.Need-decode-requires
 decode-requires c κs = search needs
 
-enum-known-answer : tie.Need-enum-known-answer
-enum-known-answer c = search needs
+slice-aggregate-put-line-of : tie.Need-slice-aggregate-put-line-of
+slice-aggregate-put-line-of c = search needs
 
-new-requires : tie.Need-new-requires
-new-requires c κs = search needs
+put-line-of-requires : tie.Need-put-line-of-requires
+put-line-of-requires c κs = search needs
 
-put-event-line-requires : tie.Need-put-event-line-requires
-put-event-line-requires c κs = search needs
+add-t15 : tie.Need-add-t15
+add-t15 c = search needs
 
-with-pair-requires : tie.Need-with-pair-requires
-with-pair-requires c κs = search needs
-
-enum-told : tie.Need-enum-told
-enum-told c = search needs
-
-new-requires-2 : tie.Need-new-requires-2
-new-requires-2 c κs = search needs
-
-with-pair-requires-2 : tie.Need-with-pair-requires-2
-with-pair-requires-2 c κs = search needs
-
-enum-told-2 : tie.Need-enum-told-2
-enum-told-2 c = search needs
-
-one-more-requires : tie.Need-one-more-requires
-one-more-requires c κs = search needs
-
-new-requires-3 : tie.Need-new-requires-3
-new-requires-3 c κs = search needs
-
-put-refused-line-requires : tie.Need-put-refused-line-requires
-put-refused-line-requires c κs = search needs
-
-with-pair-requires-3 : tie.Need-with-pair-requires-3
-with-pair-requires-3 c κs = search needs
+count-refusal-requires : tie.Need-count-refusal-requires
+count-refusal-requires c κs = search needs
 
 returns : tie.Need-returns
 returns c =
-    let l = c .before .before .before .before .before .before .before .before .before .args .self in
-    let d = c .before .before .before .before .before .before .before .decode in
-    c .with-pair .ensures
-    ∙ ap (pairRead l (d .result .state) (l .refused)) (c .before .put-event-line .ensures ∙ ap (λ (x : Line). putAll x (line (l .pairs) (eventWords (c .before .before .before .before .answer .given .0 .0)))) (c .before .before .new .ensures))
-    ∙ ap (λ (a : Heard). afterPair l (heardOutcome a, d .result .state)) (sym (c .before .before .before .before .answer .given .1))
-    ∙ ap (afterPair l) (d .ensures)
-
-returns-2 : tie.Need-returns-2
-returns-2 c =
     let l = c .before .before .before .before .before .before .before .args .self in
     let d = c .before .before .before .before .before .decode in
-    c .with-pair2 .ensures
-    ∙ ap (pairRead l (d .result .state) (l .refused)) (c .before .new2 .ensures)
-    ∙ ap (λ (a : Heard). afterPair l (heardOutcome a, d .result .state)) (sym (c .before .before .enum-told .given .1))
-    ∙ ap (afterPair l) (d .ensures)
-
-returns-3 : tie.Need-returns-3
-returns-3 c =
-    let l = c .before .before .before .before .before .before .before .before .before .args .self in
-    let d = c .before .before .before .before .before .before .before .decode in
-    c .with-pair3 .ensures
-    ∙ ap₂ (pairRead l (d .result .state)) (c .before .before .before .one-more .ensures) (c .before .put-refused-line .ensures ∙ ap (λ (x : Line). putAll x (line (l .pairs) (refusedWords 1))) (c .before .before .new3 .ensures))
-    ∙ ap (λ (a : Heard). afterPair l (heardOutcome a, d .result .state)) (sym (c .before .before .before .before .enum-told2 .given .1))
+    ap₂ {C = Listing} (λ (s : Placed) (q : ℕ). record { receiver = d .result .state; half = half.Absent; pairs = l .pairs + 1; refused = q; ended = l .ended; line = record { bytes = s .1; at = 0; len = s .0 } }) (c .before .before .put-line-of .ensures) (c .count-refusal .ensures)
     ∙ ap (afterPair l) (d .ensures)
 
 pub after-pair-spec : {M : Type 1} → statement M
-after-pair-spec =
-    tie.close
-    (tie.spec
-    decode-requires
-    enum-known-answer
-    new-requires
-    put-event-line-requires
-    with-pair-requires
-    enum-told
-    new-requires-2
-    with-pair-requires-2
-    enum-told-2
-    one-more-requires
-    new-requires-3
-    put-refused-line-requires
-    with-pair-requires-3
-    returns
-    returns-2
-    returns-3)
+after-pair-spec = tie.close (tie.spec decode-requires slice-aggregate-put-line-of put-line-of-requires add-t15 count-refusal-requires returns)

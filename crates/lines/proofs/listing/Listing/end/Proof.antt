@@ -4,7 +4,7 @@ use borrow.Author.Needs.{needs}
 use mathlib.Core.Bool.{true}
 use mathlib.Core.Path.{ap}
 use Rattle.lines.specs.Pieces.{endedListing}
-use Rattle.lines.specs.declared.line.Line.{Line}
+use Rattle.lines.specs.Put.{Placed}
 use Rattle.lines.specs.declared.listing.Half.the-variants as half
 use Rattle.lines.specs.declared.listing.Listing.{Listing}
 use Rattle.lines.proofs.listing.Listing.end.Statement.{statement}
@@ -16,6 +16,9 @@ returns c = rw (c .if1 .taken)
 
 enum-told : tie.Need-enum-told
 enum-told c = search needs
+
+slice-aggregate-put-last-line : tie.Need-slice-aggregate-put-last-line
+slice-aggregate-put-last-line c = search needs
 
 put-last-line-requires : tie.Need-put-last-line-requires
 put-last-line-requires c κs = search needs
@@ -29,22 +32,13 @@ refused-by-requires c κs = search needs
 returns-2 : tie.Need-returns-2
 unfolding endedListing
 returns-2 c =
-    let l = c .before .before .before .before .before .before .args .self in
-    rw (c .before .before .before .before .before .if1 .left, c .before .enum-told .given .1)
-    (ap {B = Listing} (λ (x : Line). record { receiver = l .receiver; half = half.Absent; pairs = l .pairs; refused = l .refused; ended = true; line = x }) (c .put-last-line .ensures))
+    let l = c .before .before .before .before .before .before .before .before .before .args .self in
+    rw (c .before .before .before .before .before .before .before .before .if1 .left, c .before .before .before .enum-told .given .1)
+    (ap {B = Listing} (λ (s : Placed). record { receiver = l .receiver; half = half.Absent; pairs = l .pairs; refused = l .refused; ended = true; line = record { bytes = s .1; at = l .line .at; len = s .0 } }) (c .before .put-last-line .ensures))
 
 returns-3 : tie.Need-returns-3
 unfolding endedListing
-returns-3 c = rw (c .before .before .before .before .before .if1 .left, c .before .enum-told2 .given .1) (c .refused-by .ensures)
+returns-3 c = rw (c .before .before .before .before .before .before .if1 .left, c .before .enum-told2 .given .1) (c .refused-by .ensures)
 
 pub end-spec : {M : Type 1} → statement M
-end-spec =
-    tie.close
-    (tie.spec
-    returns
-    enum-told
-    put-last-line-requires
-    enum-told-2
-    refused-by-requires
-    returns-2
-    returns-3)
+end-spec = tie.close (tie.spec returns enum-told slice-aggregate-put-last-line put-last-line-requires enum-told-2 refused-by-requires returns-2 returns-3)
