@@ -4,6 +4,7 @@ use mathlib.Core.Bool.{true, false, cond}
 use Rattle.code.specs.declared.channel.Channel.{Channel}
 use Rattle.code.specs.declared.channel.Field.{Field}
 
+-- as in the crate, true is one and false two, so a channel is not bit 0x08 of a first byte, which is set for two
 abbrev pub channelId : Channel → ℕ
 channelId c = cond (c .0) 1 2
 

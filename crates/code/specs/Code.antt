@@ -22,6 +22,7 @@ use Rattle.code.specs.declared.control.Control.the-variants as control
 use Rattle.code.specs.declared.symbol.SymbolRow.{SymbolRow}
 use Rattle.code.specs.declared.symbol.SymbolRow.the-variants.{Special, Spanish, French, Portuguese, German}
 
+-- a control code has two bytes, also an `Unknown` of two that a set reads as text
 abbrev pub byteLen : Code → ℕ
 byteLen code.Nul = 1
 byteLen (code.Control c) = 2

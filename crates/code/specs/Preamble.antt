@@ -115,7 +115,7 @@ newPreambleOutcome NoSuchRow = refused 3
 abbrev pub rowIn : PreambleAddressCode → ℕ
 rowIn p = p .row
 
--- a colour starts at the left
+-- colours and white italics start at the left
 abbrev pub columnOf : Option ℕ → ℕ
 columnOf (some n) = n
 columnOf none = 0

@@ -39,6 +39,7 @@ underlined b = eqb (b % 2) 1
 abbrev pub isCommand : ℕ → Bool
 isCommand a = within 0x10 0x1F a
 
+-- of such a byte: bit 0x08 clear means channel one, set means two; it is removed
 abbrev pub channelOf : ℕ → Channel
 channelOf a = cond (leb a 0x17) channelOne channelTwo
 

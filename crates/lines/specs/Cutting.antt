@@ -13,11 +13,12 @@ use Rattle.lines.specs.declared.listing.Half.{Half}
 use Rattle.lines.specs.declared.listing.Half.the-variants as half
 use Rattle.lines.specs.declared.listing.Listing.{Listing}
 
--- what a state says yet of the input that is left
+-- the first byte of a pair whose second has not come
 abbrev pub halfBytes : Half → List ℕ
 halfBytes half.Absent = []
 halfBytes (half.Byte a) = a ∷ []
 
+-- what a state says yet of the input that is left
 abbrev pub saysYet : Listing → List ℕ → List ℕ
 saysYet l input =
     pending (l .line) ++ cond (l .ended) [] (listFrom (l .receiver) (l .pairs) (l .refused) (halfBytes (l .half) ++ input))

@@ -25,11 +25,12 @@ abbrev pub atPlaces : List ℕ → ℕ → List ℕ
 atPlaces [] n = (0x30 + n % 10) ∷ []
 atPlaces (p ∷ ps) n = atPlace p n ++ atPlaces ps n
 
+-- up to ten digits, which is every number of 32 bits
 unfoldable pub decimal : ℕ → List ℕ
 decimal n =
     atPlaces (1000000000 ∷ 100000000 ∷ 10000000 ∷ 1000000 ∷ 100000 ∷ 10000 ∷ 1000 ∷ 100 ∷ 10 ∷ []) n
 
--- four hex digits with capitals
+-- four hex digits with capitals; no code has a character above FFFF
 abbrev pub hexDigit : ℕ → ℕ
 hexDigit d = cond (ltb d 10) (0x30 + d) (0x37 + d)
 

@@ -91,7 +91,7 @@ pub record Pop : Type 0 where
 abbrev popped : Pair → List Code → List Code → Option Code → Pop
 popped p took waiting held = record { pair = p; took = took; next = queued waiting held }
 
--- the pair that a code is written as
+-- the pair that a code is written as; what may wait or be held can be written, so that padding stands for none
 abbrev pub sent : Outcome (Pair × ℕ) → Pair
 sent (answer x) = x .0
 sent (refused n) = pair 0x80 0x80

@@ -29,6 +29,7 @@ state p ch f = record { «last_data» = p; «last_channel» = ch; «last_receive
 abbrev pub fresh : Cea608State
 fresh = state last.Absent channel.Unknown last-field.Unknown
 
+-- the field that a command named last, whatever came behind it
 abbrev pub lastField : Cea608State → LastField
 lastField s = s .«last_received_field»
 

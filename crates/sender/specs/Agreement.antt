@@ -102,6 +102,7 @@ pub record Agreement (acts : List Act) (arrived : List Pair) : Type 0 where
   pub same-events : events (answers fresh arrived) ≡ events (readOnce fresh (queuePairs acts freshSender))
   pub same-channel : after fresh arrived .«last_channel» ≡ afterOnce fresh (queuePairs acts freshSender) .«last_channel»
   pub same-field : after fresh arrived .«last_received_field» ≡ afterOnce fresh (queuePairs acts freshSender) .«last_received_field»
+  -- at each place 1, which is refusal 1, where the pair was spoiled, and 0 where it was not
   pub refuses-the-spoiled : map refusal (answers fresh arrived) ≡ spoiledPlaces (sentBy acts freshSender) arrived
 
 abbrev pub DemandThree : Type 0

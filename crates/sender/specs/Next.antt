@@ -12,6 +12,7 @@ use Rattle.sender.specs.declared.drain.Progress.{Progress}
 use Rattle.sender.specs.declared.send.Next.{Next}
 use Rattle.sender.specs.declared.sender.Sender.{Sender}
 
+-- the pair of a pop, which a well-formed queue never refuses
 abbrev pub pairIn : Outcome Pair → Pair
 pairIn (answer p) = p
 pairIn (refused n) = pair 0x80 0x80
