@@ -30,17 +30,11 @@ use Rattle.lines.specs.declared.listing.Listing.{Listing}
 use Rattle.receiver.specs.Receiver.{step}
 use Rattle.receiver.specs.declared.state.Cea608State.{Cea608State}
 
--- a half pair is there only below the limit
-abbrev HalfBelow : Half → ℕ → Type 0
-HalfBelow half.Absent k = Unit
-HalfBelow (half.Byte a) k = k < mostPairs
-
 -- a state that calls leave of a fresh one. Where it has not ended, its counts are those of a stream within the limit, and
 -- the last lines have a place behind what waits
 pub record Open (l : Listing) : Type 0 where
   pub pairs : l .pairs ≤ mostPairs
   pub refused : l .refused ≤ l .pairs
-  pub half : HalfBelow (l .half) (l .pairs)
   pub begun : Begun (l .line)
   pub ahead : l .line .at ≤ l .line .len
   pub short : l .line .len ≤ 42
@@ -86,9 +80,9 @@ at-the-limit s k q a (b ∷ rest) e = rw e refl
 
 -- a byte, where nothing waits: what is said yet is the same
 module _ (l : Listing) (on : l .ended ≡ false) (o : Open l) (quiet : pending (l .line) ≡ []) where
-  limit-says : (h : Half) → HalfBelow h (l .pairs) → (a : ℕ) (rest : List ℕ) → leb mostPairs (l .pairs) ≡ true → listFrom (l .receiver) (l .pairs) (l .refused) (halfBytes h ++ (a ∷ rest)) ≡ endsRefused 10 (l .pairs) (l .refused)
-  limit-says half.Absent below a rest e = at-the-limit (l .receiver) (l .pairs) (l .refused) a rest e
-  limit-says (half.Byte x) below a rest e = at-the-limit (l .receiver) (l .pairs) (l .refused) x (a ∷ rest) e
+  limit-says : (h : Half) (a : ℕ) (rest : List ℕ) → leb mostPairs (l .pairs) ≡ true → listFrom (l .receiver) (l .pairs) (l .refused) (halfBytes h ++ (a ∷ rest)) ≡ endsRefused 10 (l .pairs) (l .refused)
+  limit-says half.Absent a rest e = at-the-limit (l .receiver) (l .pairs) (l .refused) a rest e
+  limit-says (half.Byte x) a rest e = at-the-limit (l .receiver) (l .pairs) (l .refused) x (a ∷ rest) e
 
   pair-says : (x a : ℕ) (rest : List ℕ) → l .pairs < mostPairs → listFrom (l .receiver) (l .pairs) (l .refused) (x ∷ a ∷ rest) ≡ saysYet (afterPair l (step (l .receiver) (pair x a))) rest
   pair-says x a rest less =
@@ -101,16 +95,16 @@ module _ (l : Listing) (on : l .ended ≡ false) (o : Open l) (quiet : pending (
       (ap₂ (λ (xs : List ℕ) (q : ℕ). xs ++ listFrom (r .1) (l .pairs + 1) q rest) (sym waits) (sym (counts (r .0) (l .refused) (omega (arith, o .refused, less))))
       ∙ sym (open-says (afterPair l r) rest on))
 
-  byte-says : (h : Half) → l .half ≡ h → HalfBelow h (l .pairs) → (a : ℕ) (rest : List ℕ) → leb mostPairs (l .pairs) ≡ false → listFrom (l .receiver) (l .pairs) (l .refused) (halfBytes h ++ (a ∷ rest)) ≡ saysYet (withByte l h a) rest
-  byte-says half.Absent is below a rest e =
+  byte-says : (h : Half) (a : ℕ) (rest : List ℕ) → leb mostPairs (l .pairs) ≡ false → listFrom (l .receiver) (l .pairs) (l .refused) (halfBytes h ++ (a ∷ rest)) ≡ saysYet (withByte l h a) rest
+  byte-says half.Absent a rest e =
       sym (open-says (withHalf l a) rest on ∙ ap (λ (xs : List ℕ). xs ++ listFrom (l .receiver) (l .pairs) (l .refused) (a ∷ rest)) quiet)
-  byte-says (half.Byte x) is below a rest e = pair-says x a rest below
+  byte-says (half.Byte x) a rest e = pair-says x a rest (leb-false mostPairs (l .pairs) e)
 
   absorbed-by : (t : Bool) → leb mostPairs (l .pairs) ≡ t → (a : ℕ) (rest : List ℕ) → listFrom (l .receiver) (l .pairs) (l .refused) (halfBytes (l .half) ++ (a ∷ rest)) ≡ saysYet (cond t (refusedBy 10 l emptyLine) (withByte l (l .half) a)) rest
   absorbed-by true e a rest =
-      limit-says (l .half) (o .half) a rest e
+      limit-says (l .half) a rest e
       ∙ sym (refused-says l emptyLine empty-begun (omega arith) (omega arith) 10 rest (o .pairs) (omega (arith, o .pairs, o .refused)) ten-short)
-  absorbed-by false e a rest = byte-says (l .half) refl (o .half) a rest e
+  absorbed-by false e a rest = byte-says (l .half) a rest e
 
   pub a-byte-says-the-same : (a : ℕ) (rest : List ℕ) → saysYet l (a ∷ rest) ≡ saysYet (absorbed l a) rest
   unfolding absorbed
@@ -120,11 +114,10 @@ module _ (l : Listing) (on : l .ended ≡ false) (o : Open l) (quiet : pending (
       ∙ absorbed-by (leb mostPairs (l .pairs)) refl a rest
 
 -- an absorbed byte leaves a sound state
-half-open : (l : Listing) → Open l → (a : ℕ) → l .pairs < mostPairs → Open (withHalf l a)
-half-open l o a less = record {
+half-open : (l : Listing) → Open l → (a : ℕ) → Open (withHalf l a)
+half-open l o a = record {
   pairs = o .pairs;
   refused = o .refused;
-  half = less;
   begun = o .begun;
   ahead = o .ahead;
   short = o .short;
@@ -143,15 +136,14 @@ pair-open l o x a less =
     record {
       pairs = omega (arith, less);
       refused = omega (arith, counts (r .0) (l .refused) (omega (arith, o .refused, less)), few-refusals (r .0), o .refused);
-      half = tt;
       begun = holds .begun;
       ahead = omega (arith, holds .at, holds .len);
       short = omega (arith, holds .len, fits);
     }
 
-byte-open : (l : Listing) → Open l → (h : Half) → HalfBelow h (l .pairs) → (a : ℕ) → leb mostPairs (l .pairs) ≡ false → Open (withByte l h a)
-byte-open l o half.Absent below a e = half-open l o a (leb-false mostPairs (l .pairs) e)
-byte-open l o (half.Byte x) below a e = pair-open l o x a below
+byte-open : (l : Listing) → Open l → (h : Half) (a : ℕ) → leb mostPairs (l .pairs) ≡ false → Open (withByte l h a)
+byte-open l o half.Absent a e = half-open l o a
+byte-open l o (half.Byte x) a e = pair-open l o x a (leb-false mostPairs (l .pairs) e)
 
 absorbed-sound : (l : Listing) → Open l → (a : ℕ) → Sound (absorbed l a)
 unfolding absorbed
@@ -159,7 +151,7 @@ absorbed-sound l o a = by-limit (leb mostPairs (l .pairs)) refl
   where
     by-limit : (t : Bool) → leb mostPairs (l .pairs) ≡ t → Sound (cond t (refusedBy 10 l emptyLine) (withByte l (l .half) a))
     by-limit true e on = absurd (true≢false on)
-    by-limit false e on = byte-open l o (l .half) (o .half) a e
+    by-limit false e on = byte-open l o (l .half) a e
 
 -- what is written, and what is said then
 flush-says : (l : Listing) (room : ℕ) (input : List ℕ) → saysYet l input ≡ writes (l .line) room ++ saysYet (withLine l (unwritten (l .line) room)) input
@@ -175,7 +167,6 @@ flushed-open l room o = by-room (ltb room (waiting (l .line))) refl
     by-room true more = record {
       pairs = o .pairs;
       refused = o .refused;
-      half = o .half;
       begun = record { places = o .begun .places; inside = o .begun .inside };
       ahead = omega (arith, ltb-true room (waiting (l .line)) more, waiting-is (l .line) (o .begun .inside));
       short = o .short;
@@ -183,7 +174,6 @@ flushed-open l room o = by-room (ltb room (waiting (l .line))) refl
     by-room false none = record {
       pairs = o .pairs;
       refused = o .refused;
-      half = o .half;
       begun = empty-begun;
       ahead = omega arith;
       short = omega arith;
@@ -240,14 +230,19 @@ a-piece-says-the-same (a ∷ rest) l sound more room =
     (absorbed-sound (withLine l (unwritten (l .line) room)) (flushed-open l room (sound on)) a) more (room - length (writes (l .line) room)))
 
 -- the end of the input says nothing new
-end-by : (l : Listing) → Open l → (h : Half) → HalfBelow h (l .pairs) → pending (l .line) ++ listFrom (l .receiver) (l .pairs) (l .refused) (halfBytes h ++ []) ≡ saysYet (endBy l h) []
-end-by l o half.Absent below =
+end-by : (l : Listing) → Open l → (h : Half) → pending (l .line) ++ listFrom (l .receiver) (l .pairs) (l .refused) (halfBytes h ++ []) ≡ saysYet (endBy l h) []
+end-by l o half.Absent =
     let short = last-line-short (l .pairs) (l .refused) (omega (arith, o .pairs)) (omega (arith, o .pairs, o .refused)) in
     sym (ended-says l (l .line) (o .begun) (o .ahead) (o .short) [] (l .refused) [] short)
-end-by l o (half.Byte x) below =
-    let under = lt-leb mostPairs (l .pairs) below in
-    ap (λ (t : Bool). pending (l .line) ++ cond t (endsRefused 10 (l .pairs) (l .refused)) (endsRefused 9 (l .pairs) (l .refused))) under
-    ∙ sym (refused-says l (l .line) (o .begun) (o .ahead) (o .short) 9 [] (o .pairs) (omega (arith, o .pairs, o .refused)) (omega (arith, nine-short)))
+end-by l o (half.Byte x) = by-limit (leb mostPairs (l .pairs))
+  where
+    refused-by : (n : ℕ) → length (refusedWords n) ≤ 10 → pending (l .line) ++ endsRefused n (l .pairs) (l .refused) ≡ saysYet (refusedBy n l (l .line)) []
+    refused-by n short =
+        sym (refused-says l (l .line) (o .begun) (o .ahead) (o .short) n [] (o .pairs) (omega (arith, o .pairs, o .refused)) short)
+
+    by-limit : (t : Bool) → pending (l .line) ++ cond t (endsRefused 10 (l .pairs) (l .refused)) (endsRefused 9 (l .pairs) (l .refused)) ≡ saysYet (refusedBy (cond t 10 9) l (l .line)) []
+    by-limit true = refused-by 10 ten-short
+    by-limit false = refused-by 9 (omega (arith, nine-short))
 
 pub the-end-says-the-same : (l : Listing) → Sound l → saysYet l [] ≡ saysYet (endedListing l) []
 unfolding endedListing
@@ -255,7 +250,7 @@ the-end-says-the-same l sound = by-ended (l .ended) refl
   where
     by-ended : (t : Bool) → l .ended ≡ t → saysYet l [] ≡ saysYet (cond t l (endBy l (l .half))) []
     by-ended true e = refl
-    by-ended false e = open-says l [] e ∙ end-by l (sound e) (l .half) (sound e .half)
+    by-ended false e = open-says l [] e ∙ end-by l (sound e) (l .half)
 
 -- what every run keeps: what it wrote, then what its state says yet of the input that is left, is the listing of the whole
 pub record Kept (bytes : List ℕ) (r : Run) : Type 0 where
@@ -263,7 +258,7 @@ pub record Kept (bytes : List ℕ) (r : Run) : Type 0 where
   pub text : listing bytes ≡ r .text ++ saysYet (r .listing) (r .left)
 
 fresh-open : Open freshListing
-fresh-open = record { pairs = omega arith; refused = omega arith; half = tt; begun = empty-begun; ahead = omega arith; short = omega arith }
+fresh-open = record { pairs = omega arith; refused = omega arith; begun = empty-begun; ahead = omega arith; short = omega arith }
 
 pub began-kept : (bytes : List ℕ) → Kept bytes (began freshListing bytes)
 unfolding listing

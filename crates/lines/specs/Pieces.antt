@@ -81,7 +81,7 @@ absorbed l a = cond (leb mostPairs (l .pairs)) (refusedBy 10 l emptyLine) (withB
 -- the end of the input, behind what waits
 abbrev pub endBy : Listing → Half → Listing
 endBy l half.Absent = ending l (l .line) [] (l .refused)
-endBy l (half.Byte x) = refusedBy 9 l (l .line)
+endBy l (half.Byte x) = refusedBy (cond (leb mostPairs (l .pairs)) 10 9) l (l .line)
 
 unfoldable pub endedListing : Listing → Listing
 endedListing l = cond (l .ended) l (endBy l (l .half))

@@ -187,7 +187,12 @@ impl Listing {
                     },
                 }
             }
-            Half::Byte(_) => self.refused_by(9, line),
+            Half::Byte(_) => {
+                if 16_777_216 <= pairs {
+                    return self.refused_by(10, line);
+                }
+                self.refused_by(9, line)
+            }
         }
     }
 
