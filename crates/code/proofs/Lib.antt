@@ -6,6 +6,7 @@ pub mod First
 pub mod Increasing
 pub mod Keys
 pub mod Lengths
+pub mod LentPart
 pub mod Lookup
 pub mod Meaning
 pub mod Numbers

@@ -9,7 +9,8 @@ use native.Mathlib.Numerals.{add-one}
 use native.Mathlib.Omega.{arith}
 use lib.Dec.{ltb}
 use lib.ListN.{drop, drop-of-length-le, getD, length, length-append, length-drop, take}
-use lib.Seq.{drop-at, drop-cons, drop-drop, length-front, length-take-le, take-all, take-at, take-nil}
+use lib.Seq.{drop-at, drop-cons, drop-drop, length-front, length-take-le, take-at, take-nil}
+use Rattle.code.proofs.LentPart.{lent-part, with-part, withPart}
 use Rattle.lines.proofs.Waiting.{empty-where-no-more, fits, left-where-more, nothing-waits}
 use Rattle.lines.specs.Line.{emptyLine, flushOutcome, flushed, hasMore, over, unwritten, waiting, writes}
 use Rattle.lines.specs.Midway.{comesTo, onceRead}
@@ -154,23 +155,13 @@ module _ (l : Listing) (output : List ℕ) (written : ℕ) (inside : written ≤
       (ap (λ (i : List ℕ). pieceOf l i room) first
       ∙ ap (λ (t : Bool). cond t (flushedOnly l room) (behind w (pieceOf next (drop (taken + 1) input) (room - length w)))) stop)
 
--- an output whose part from a place on is now ys
-abbrev back : List ℕ → ℕ → List ℕ → List ℕ
-back output written ys = take written output ++ (ys ++ drop (length output - written) (drop written output))
-
-back-is : (output : List ℕ) (written : ℕ) (ys : List ℕ) → back output written ys ≡ take written output ++ ys
-back-is output written ys =
-    let none : length (drop written output) ≤ length output - written = omega (arith, length-drop written output) in
-    ap (λ (d : List ℕ). take written output ++ (ys ++ d)) (drop-of-length-le (drop written output) none)
-    ∙ ap (λ (d : List ℕ). take written output ++ d) (append-nil ys)
-
 -- the same with what the flush of the part that was lent came to
 module _ (l : Listing) (output : List ℕ) (written : ℕ) (inside : written ≤ length output) (r : Flushed) (ys : List ℕ) (done : flushOutcome r ys ≡ flushed (l .line) (take (length output - written) (drop written output))) where
   of-part : flushOutcome r ys ≡ (length (said l output written), unwritten (l .line) (length output - written), over (said l output written) (drop written output))
   of-part =
       let rest = drop written output in
       done
-      ∙ ap (flushed (l .line)) (take-all (length output - written) rest (omega (arith, length-drop written output)))
+      ∙ ap (flushed (l .line)) (lent-part output written)
       ∙ ap {B = ℕ × Line × List ℕ} (λ (n : ℕ). (length (writes (l .line) n), unwritten (l .line) n, over (writes (l .line) n) rest)) (length-drop written output)
 
   counted : r .count ≡ length (said l output written)
@@ -179,17 +170,17 @@ module _ (l : Listing) (output : List ℕ) (written : ℕ) (inside : written ≤
   line-left : r .line ≡ unwritten (l .line) (length output - written)
   line-left = ap (λ (x : ℕ × Line × List ℕ). x .1) of-part
 
-  part-filled : back output written ys ≡ filled l output written
-  part-filled = back-is output written ys ∙ ap (λ (x : ℕ × Line × List ℕ). take written output ++ x .2) of-part
+  part-filled : withPart output written ys ≡ filled l output written
+  part-filled = with-part output written ys ∙ ap (λ (x : ℕ × Line × List ℕ). take written output ++ x .2) of-part
 
   pub count-fits : written + r .count ≤ length output
   count-fits = omega (arith, counted, fits (l .line) (length output - written))
 
-  pub back-length : length (back output written ys) ≡ length output
-  back-length = ap length part-filled ∙ filled-length l output written inside
+  pub part-length : length (withPart output written ys) ≡ length output
+  part-length = ap length part-filled ∙ filled-length l output written inside
 
-  pub stays-inside : written + r .count ≤ length (back output written ys)
-  stays-inside = omega (arith, count-fits, back-length)
+  pub stays-inside : written + r .count ≤ length (withPart output written ys)
+  stays-inside = omega (arith, count-fits, part-length)
 
   left-is : (m : Listing) → m ≡ withLine l (r .line) → m ≡ left l output written
   left-is m e = e ∙ ap (withLine l) line-left
@@ -200,15 +191,15 @@ module _ (l : Listing) (output : List ℕ) (written : ℕ) (inside : written ≤
   more-is : hasMore (r .line) ≡ ltb (length output - written) (waiting (l .line))
   more-is = ap hasMore line-left ∙ left-where-more (l .line) (length output - written)
 
-  stopped : (taken : ℕ) (m : Listing) → m ≡ withLine l (r .line) → _≡_ {A = Read} (taken, written + r .count, m, back output written ys) (taken, written + length (said l output written), left l output written, filled l output written)
+  stopped : (taken : ℕ) (m : Listing) → m ≡ withLine l (r .line) → _≡_ {A = Read} (taken, written + r .count, m, withPart output written ys) (taken, written + length (said l output written), left l output written, filled l output written)
   stopped taken m e =
-      ap₂ {C = Read} (λ (n : ℕ) (x : Listing). (taken, written + n, x, back output written ys)) counted (left-is m e)
+      ap₂ {C = Read} (λ (n : ℕ) (x : Listing). (taken, written + n, x, withPart output written ys)) counted (left-is m e)
       ∙ ap {B = Read} (λ (o : List ℕ). (taken, written + length (said l output written), left l output written, o)) part-filled
 
-  pub at-end : (input : List ℕ) (taken : ℕ) (m : Listing) → length input ≤ taken → m ≡ withLine l (r .line) → (taken, written + r .count, m, back output written ys) ≡ comesTo input taken l output written
+  pub at-end : (input : List ℕ) (taken : ℕ) (m : Listing) → length input ≤ taken → m ≡ withLine l (r .line) → (taken, written + r .count, m, withPart output written ys) ≡ comesTo input taken l output written
   at-end input taken m over-all e = stopped taken m e ∙ sym (stops-at-end l output written inside input taken over-all)
 
-  pub where-more-is-left : (input : List ℕ) (taken : ℕ) (m : Listing) → taken < length input → m ≡ withLine l (r .line) → hasMore (r .line) ≡ true → (taken, written + r .count, m, back output written ys) ≡ comesTo input taken l output written
+  pub where-more-is-left : (input : List ℕ) (taken : ℕ) (m : Listing) → taken < length input → m ≡ withLine l (r .line) → hasMore (r .line) ≡ true → (taken, written + r .count, m, withPart output written ys) ≡ comesTo input taken l output written
   where-more-is-left input taken m more e some =
       stopped taken m e ∙ sym (stops-here l output written inside input taken more (stop-by (l .ended) (sym more-is ∙ some)))
     where
@@ -216,12 +207,12 @@ module _ (l : Listing) (output : List ℕ) (written : ℕ) (inside : written ≤
       stop-by true e = refl
       stop-by false e = e
 
-  pub where-ended : (input : List ℕ) (taken : ℕ) (m : Listing) → taken < length input → m ≡ withLine l (r .line) → m .ended ≡ true → (taken, written + r .count, m, back output written ys) ≡ comesTo input taken l output written
+  pub where-ended : (input : List ℕ) (taken : ℕ) (m : Listing) → taken < length input → m ≡ withLine l (r .line) → m .ended ≡ true → (taken, written + r .count, m, withPart output written ys) ≡ comesTo input taken l output written
   where-ended input taken m more e end =
       let b = ltb (length output - written) (waiting (l .line)) in
       stopped taken m e ∙ sym (stops-here l output written inside input taken more (ap (λ (t : Bool). cond t true b) (sym (ended-is m e) ∙ end)))
 
-  pub flushed-on : (input : List ℕ) (taken : ℕ) (m : Listing) → m ≡ withLine l (r .line) → hasMore (r .line) ≡ false → m .ended ≡ false → comesTo input taken m (back output written ys) (written + r .count) ≡ comesTo input taken l output written
+  pub flushed-on : (input : List ℕ) (taken : ℕ) (m : Listing) → m ≡ withLine l (r .line) → hasMore (r .line) ≡ false → m .ended ≡ false → comesTo input taken m (withPart output written ys) (written + r .count) ≡ comesTo input taken l output written
   flushed-on input taken m e none going =
       let room = length output - written in
       let no-more = sym more-is ∙ none in

@@ -7,7 +7,7 @@ use mathlib.Core.Path.{_≡_, refl, sym, _∙_}
 use Prim.Native.Nat.{_-_, _≤_}
 use native.Mathlib.Omega.{arith}
 use lib.ListN.{length}
-use Rattle.lines.proofs.Reading.{at-end, back-length, begun, byte-taken, count-fits, flushed-on, line-is-empty, stays-inside, where-ended, where-more-is-left}
+use Rattle.lines.proofs.Reading.{at-end, part-length, begun, byte-taken, count-fits, flushed-on, line-is-empty, stays-inside, where-ended, where-more-is-left}
 use Rattle.lines.specs.Midway.{comesTo}
 use Rattle.lines.specs.Pieces.{readListing}
 use Rattle.lines.proofs.listing.Listing.read.Statement.{statement}
@@ -80,7 +80,7 @@ loop-again c =
           ∙ further .0
           ∙ flushed-on (c .before .before .before .before .before .before .before .before .before .before .before .before .before .before .before .before .before .before .before .before .loop .listing) (c .before .before .before .before .before .before .before .before .before .before .before .before .before .before .before .before .before .before .before .before .loop .output) (c .before .before .before .before .before .before .before .before .before .before .before .before .before .before .before .before .before .before .before .before .loop .written) (c .before .before .before .before .before .before .before .before .before .before .before .before .before .before .before .before .before .before .before .before .loop .inv .3) _ _ (c .before .before .before .before .before .before .before .before .before .before .before .before .before .before .before .before .flush .ensures) _ (loop .taken) _ (c .before .before .before .before .before .before .before .before .before .before .before .with-line .ensures) none (c .before .before .before .before .before .before .before .before .if2 .left)
           ∙ loop .inv .0,
-      further .1 ∙ back-length (c .before .before .before .before .before .before .before .before .before .before .before .before .before .before .before .before .before .before .before .before .loop .listing) (c .before .before .before .before .before .before .before .before .before .before .before .before .before .before .before .before .before .before .before .before .loop .output) (c .before .before .before .before .before .before .before .before .before .before .before .before .before .before .before .before .before .before .before .before .loop .written) (c .before .before .before .before .before .before .before .before .before .before .before .before .before .before .before .before .before .before .before .before .loop .inv .3) _ _ (c .before .before .before .before .before .before .before .before .before .before .before .before .before .before .before .before .flush .ensures) ∙ loop .inv .1,
+      further .1 ∙ part-length (c .before .before .before .before .before .before .before .before .before .before .before .before .before .before .before .before .before .before .before .before .loop .listing) (c .before .before .before .before .before .before .before .before .before .before .before .before .before .before .before .before .before .before .before .before .loop .output) (c .before .before .before .before .before .before .before .before .before .before .before .before .before .before .before .before .before .before .before .before .loop .written) (c .before .before .before .before .before .before .before .before .before .before .before .before .before .before .before .before .before .before .before .before .loop .inv .3) _ _ (c .before .before .before .before .before .before .before .before .before .before .before .before .before .before .before .before .flush .ensures) ∙ loop .inv .1,
       omega (arith, c .before .before .if3 .taken),
       further .3 .3,
     )
@@ -96,7 +96,7 @@ loop-again-2 c =
       further .0
           ∙ flushed-on (c .before .before .before .before .before .before .before .before .before .before .before .before .before .before .before .before .before .before .loop .listing) (c .before .before .before .before .before .before .before .before .before .before .before .before .before .before .before .before .before .before .loop .output) (c .before .before .before .before .before .before .before .before .before .before .before .before .before .before .before .before .before .before .loop .written) (c .before .before .before .before .before .before .before .before .before .before .before .before .before .before .before .before .before .before .loop .inv .3) _ _ (c .before .before .before .before .before .before .before .before .before .before .before .before .before .before .flush .ensures) _ (loop .taken) _ (c .before .before .before .before .before .before .before .before .before .with-line .ensures) none (c .before .before .before .before .before .before .if2 .left)
           ∙ loop .inv .0,
-      further .1 ∙ back-length (c .before .before .before .before .before .before .before .before .before .before .before .before .before .before .before .before .before .before .loop .listing) (c .before .before .before .before .before .before .before .before .before .before .before .before .before .before .before .before .before .before .loop .output) (c .before .before .before .before .before .before .before .before .before .before .before .before .before .before .before .before .before .before .loop .written) (c .before .before .before .before .before .before .before .before .before .before .before .before .before .before .before .before .before .before .loop .inv .3) _ _ (c .before .before .before .before .before .before .before .before .before .before .before .before .before .before .flush .ensures) ∙ loop .inv .1,
+      further .1 ∙ part-length (c .before .before .before .before .before .before .before .before .before .before .before .before .before .before .before .before .before .before .loop .listing) (c .before .before .before .before .before .before .before .before .before .before .before .before .before .before .before .before .before .before .loop .output) (c .before .before .before .before .before .before .before .before .before .before .before .before .before .before .before .before .before .before .loop .written) (c .before .before .before .before .before .before .before .before .before .before .before .before .before .before .before .before .before .before .loop .inv .3) _ _ (c .before .before .before .before .before .before .before .before .before .before .before .before .before .before .flush .ensures) ∙ loop .inv .1,
       further .3 .2,
       further .3 .3,
     )
