@@ -1,6 +1,6 @@
 // Taking the next pair for the line out of the queue.
 ghost use mathlib.Core.List.{[]};
-ghost use mathlib.Core.Option.{none};
+ghost use mathlib.Core.Option.{none, some};
 ghost use mathlib.Core.Path.{_≡_};
 ghost use Prim.Native.Nat.{_≤_, _<_};
 ghost use Rattle.queue.specs.Queue.{pairOf, popCommand, popSingle, popTwo, queued};
@@ -19,8 +19,8 @@ pub enum PopAnswer {
 }
 
 pub struct Popped {
-    pub answer: PopAnswer,
     pub queue: Queue,
+    pub answer: PopAnswer,
 }
 
 // What a pop does: the pair that goes out, how many places it frees, and what is held afterwards.
@@ -38,6 +38,17 @@ pub(crate) fn pair_of(code: Code) -> Pair
         Written::Made(pair, _) => pair,
         Written::UnknownByte => Pair(0x80, 0x80),
         Written::NoSuchRow => Pair(0x80, 0x80),
+    }
+}
+
+// The held code goes out first of all, and no place is freed.
+pub(crate) fn held_turn(code: Code) -> Turn
+    ensures { λ r. ⌜ r ≡ turn (queued [] (some code)) ⌝ }
+{
+    Turn {
+        pair: pair_of(code),
+        freed: 0,
+        held: Held::Absent,
     }
 }
 
@@ -127,22 +138,6 @@ impl Queue {
         single_turn(first, second)
     }
 
-    // The turn of any well-formed queue: first of all the held code.
-    pub(crate) fn turn(self) -> Turn
-        requires { ⌜ (self .start < 64) × (self .waiting ≤ 64) ⌝ }
-        ensures { λ r. ⌜ r ≡ turn (view self) ⌝ }
-    {
-        let held = self.held;
-        match held {
-            Held::Of(code) => Turn {
-                pair: pair_of(code),
-                freed: 0,
-                held: Held::Absent,
-            },
-            Held::Absent => self.waiting_turn(),
-        }
-    }
-
     // The queue after a turn: the places in front are free again.
     pub(crate) fn freeing(self, turn: Turn) -> Queue
         requires { ⌜ (self .start < 64) × (self .waiting ≤ 64) × (turn .freed ≤ self .waiting) ⌝ }
@@ -171,7 +166,11 @@ impl Queue {
                 queue: self,
             };
         }
-        let turn = self.turn();
+        let held = self.held;
+        let turn = match held {
+            Held::Of(code) => held_turn(code),
+            Held::Absent => self.waiting_turn(),
+        };
         let pair = turn.pair;
         Popped {
             answer: PopAnswer::Sent(pair),

@@ -14,14 +14,14 @@ pub enum DrainAnswer {
 }
 
 pub struct Drained {
-    pub answer: DrainAnswer,
     pub sender: Sender,
+    pub answer: DrainAnswer,
 }
 
 // How far a writer of pairs has come.
 pub(crate) struct Progress {
-    pub sends: usize,
     pub sender: Sender,
+    pub sends: usize,
 }
 
 impl Sender {

@@ -12,14 +12,14 @@ use code::Pair;
 use queue::PopAnswer;
 
 pub struct Sent {
-    pub answer: PopAnswer,
     pub sender: Sender,
+    pub answer: PopAnswer,
 }
 
 // A send from a well-formed state, which cannot be refused.
 pub(crate) struct Next {
-    pub pair: Pair,
     pub sender: Sender,
+    pub pair: Pair,
 }
 
 // What is owed once a pair of the queue has been sent: the same pair again where it is a command.
