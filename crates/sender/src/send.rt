@@ -26,10 +26,10 @@ pub(crate) struct Next {
 pub(crate) fn repeat_of(pair: Pair) -> Owed
     ensures { λ r. ⌜ r ≡ owedAs (repeatOf pair) ⌝ }
 {
-    if is_command(pair) {
-        return Owed::Repeat(pair);
+    if !is_command(pair) {
+        return Owed::Absent;
     }
-    Owed::Absent
+    Owed::Repeat(pair)
 }
 
 // The pair of an answer. A well-formed queue gives one.
