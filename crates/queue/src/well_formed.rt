@@ -31,17 +31,21 @@ pub(crate) fn is_nul(code: Code) -> bool
     }
 }
 
-// Whether a code may wait: any but NUL that can be written. NUL has no arm of its own: with four arms the compiler makes
-// a table of jumps, and the test of a state takes twice as long.
+// Whether a code may wait: any but NUL that can be written. Kind by kind, letters first, and not by a `match`: of its four
+// arms the compiler makes a table of jumps, and the test of a state takes twice as long.
 pub(crate) fn may_wait(code: Code) -> bool
     ensures { λ r. ⌜ r ≡ mayWait code ⌝ }
 {
-    match code {
-        Code::Letter(_) => is_inside(code),
-        Code::Control(_) => is_inside(code),
-        Code::Unknown(_) => is_inside(code),
-        _ => false,
+    if let Code::Letter(_) = code {
+        return is_inside(code);
     }
+    if let Code::Control(_) = code {
+        return is_inside(code);
+    }
+    if let Code::Unknown(_) = code {
+        return is_inside(code);
+    }
+    false
 }
 
 // Whether a code may be held: a command that can be written.
