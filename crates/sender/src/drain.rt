@@ -36,16 +36,10 @@ impl Sender {
         let mut at: usize = 0;
         while sends < limit {
             if room - at < 2 {
-                return Progress {
-                    sends: sends,
-                    sender: sender,
-                };
+                break;
             }
             if sender.has_nothing() {
-                return Progress {
-                    sends: sends,
-                    sender: sender,
-                };
+                break;
             }
             let next = sender.next();
             let pair = next.pair;

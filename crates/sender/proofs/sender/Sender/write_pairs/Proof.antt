@@ -35,22 +35,31 @@ loop-holds c = (
 sub-if1 : tie.Need-sub-if1 Inv-loop μ-loop
 sub-if1 c = omega arith
 
+has-nothing-requires : tie.Need-has-nothing-requires Inv-loop μ-loop
+has-nothing-requires c κs = search needs
+
+-- the three ways out of the loop
 same-length : tie.Need-same-length Inv-loop μ-loop
 same-length c = search needs
 
 returns : tie.Need-returns Inv-loop μ-loop
 returns c =
-    let loop = c .before .before .loop in
-    sym (done-without-room _ (loop .sends) (loop .sender) (loop .part) (loop .at) (omega arith)) ∙ loop .inv .0
-
-has-nothing-requires : tie.Need-has-nothing-requires Inv-loop μ-loop
-has-nothing-requires c κs = search needs
+    let loop = c .before .loop in
+    sym (done-at-limit _ (loop .sends) (loop .sender) (loop .part) (loop .at) (c .loop-test .left)) ∙ loop .inv .0
 
 same-length-2 : tie.Need-same-length-2 Inv-loop μ-loop
 same-length-2 c = search needs
 
 returns-2 : tie.Need-returns-2 Inv-loop μ-loop
 returns-2 c =
+    let loop = c .before .before .loop in
+    sym (done-without-room _ (loop .sends) (loop .sender) (loop .part) (loop .at) (omega arith)) ∙ loop .inv .0
+
+same-length-3 : tie.Need-same-length-3 Inv-loop μ-loop
+same-length-3 c = search needs
+
+returns-3 : tie.Need-returns-3 Inv-loop μ-loop
+returns-3 c =
     let loop = c .before .before .before .before .loop in
     sym (done-when-idle _ (loop .sends) (loop .sender) (loop .part) (loop .at) (sym (c .before .has-nothing .ensures) ∙ c .if2 .taken))
     ∙ loop .inv .0
@@ -88,14 +97,6 @@ loop-again c =
       omega arith,
     )
 
-same-length-3 : tie.Need-same-length-3 Inv-loop μ-loop
-same-length-3 c = search needs
-
-returns-3 : tie.Need-returns-3 Inv-loop μ-loop
-returns-3 c =
-    let loop = c .before .loop in
-    sym (done-at-limit _ (loop .sends) (loop .sender) (loop .part) (loop .at) (c .loop-test .left)) ∙ loop .inv .0
-
 pub write-pairs-spec : {M : Type 1} → statement M
 write-pairs-spec =
     tie.close
@@ -104,11 +105,7 @@ write-pairs-spec =
     μ-loop
     loop-holds
     sub-if1
-    same-length
-    returns
     has-nothing-requires
-    same-length-2
-    returns-2
     next-requires
     slice-write-part
     add-part
@@ -117,5 +114,9 @@ write-pairs-spec =
     add-sends
     loop-less
     loop-again
+    same-length
+    returns
+    same-length-2
+    returns-2
     same-length-3
     returns-3)
