@@ -107,6 +107,10 @@ impl Queue {
         if !held.is_well_formed() {
             return false;
         }
+        // The ring is not copied where nothing waits, as between captions.
+        if waiting == 0 {
+            return true;
+        }
         self.waiting_is_well_formed()
     }
 }
