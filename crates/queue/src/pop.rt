@@ -111,20 +111,13 @@ pub(crate) fn single_turn(first: Code, second: Code) -> Turn
 }
 
 impl Queue {
-    // The turn of a queue that holds nothing.
-    pub(crate) fn waiting_turn(self) -> Turn
-        requires { ⌜ (self .start < 64) × (self .waiting ≤ 64) ⌝ }
+    // The turn of a queue in which a code waits and none is held.
+    pub(crate) fn front_turn(self) -> Turn
+        requires { ⌜ (self .start < 64) × (self .waiting ≤ 64) × (0 < self .waiting) ⌝ }
         ensures { λ r. ⌜ r ≡ turn (queued (waitingIn self) none) ⌝ }
     {
         let start = self.start;
         let waiting = self.waiting;
-        if waiting == 0 {
-            return Turn {
-                pair: Pair(0x80, 0x80),
-                freed: 0,
-                held: Held::Absent,
-            };
-        }
         let front = self.slots[start];
         let first = front.code;
         if first.byte_len() != 1 {
@@ -136,6 +129,22 @@ impl Queue {
         let behind = self.slots[(start + 1) % 64];
         let second = behind.code;
         single_turn(first, second)
+    }
+
+    // The turn of a queue that holds nothing: padding where nothing waits, and then no place of the ring is read.
+    pub(crate) fn waiting_turn(self) -> Turn
+        requires { ⌜ (self .start < 64) × (self .waiting ≤ 64) ⌝ }
+        ensures { λ r. ⌜ r ≡ turn (queued (waitingIn self) none) ⌝ }
+    {
+        let waiting = self.waiting;
+        if waiting == 0 {
+            return Turn {
+                pair: Pair(0x80, 0x80),
+                freed: 0,
+                held: Held::Absent,
+            };
+        }
+        self.front_turn()
     }
 
     // The queue after a turn: the places in front are free again.
