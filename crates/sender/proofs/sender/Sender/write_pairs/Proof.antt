@@ -38,15 +38,6 @@ sub-if1 c = omega arith
 has-nothing-requires : tie.Need-has-nothing-requires Inv-loop μ-loop
 has-nothing-requires c κs = search needs
 
--- the three ways out of the loop
-same-length : tie.Need-same-length Inv-loop μ-loop
-same-length c = search needs
-
-returns : tie.Need-returns Inv-loop μ-loop
-returns c =
-    let loop = c .before .loop in
-    sym (done-at-limit _ (loop .sends) (loop .sender) (loop .part) (loop .at) (c .loop-test .left)) ∙ loop .inv .0
-
 same-length-2 : tie.Need-same-length-2 Inv-loop μ-loop
 same-length-2 c = search needs
 
@@ -96,6 +87,14 @@ loop-again c =
       loop .inv .3,
       omega arith,
     )
+
+same-length : tie.Need-same-length Inv-loop μ-loop
+same-length c = search needs
+
+returns : tie.Need-returns Inv-loop μ-loop
+returns c =
+    let loop = c .before .loop in
+    sym (done-at-limit _ (loop .sends) (loop .sender) (loop .part) (loop .at) (c .loop-test .left)) ∙ loop .inv .0
 
 pub write-pairs-spec : {M : Type 1} → statement M
 write-pairs-spec =
