@@ -31,8 +31,8 @@ pub(crate) fn is_nul(code: Code) -> bool
     }
 }
 
-// Whether a code may wait: any but NUL that can be written. Kind by kind, letters first, and not by a `match`: of its four
-// arms the compiler makes a table of jumps, and the test of a state takes twice as long.
+// Whether a code may wait: any but NUL that can be written. Kind by kind and not by a `match`: of its four arms the
+// compiler makes a table of jumps, and the test of a letter takes half as long again.
 pub(crate) fn may_wait(code: Code) -> bool
     ensures { λ r. ⌜ r ≡ mayWait code ⌝ }
 {
