@@ -4,7 +4,7 @@ ghost use mathlib.Core.Option.{none, some};
 ghost use mathlib.Core.Path.{_≡_};
 ghost use Prim.Native.Nat.{_≤_, _<_};
 ghost use Rattle.queue.specs.Queue.{pairOf, popCommand, popSingle, popTwo, queued};
-ghost use Rattle.queue.specs.Ring.{popOutcome, popRing, view, waitingIn};
+ghost use Rattle.queue.specs.Ring.{popOutcome, popRing, waitingIn};
 ghost use Rattle.queue.specs.Turn.{freeing, turn, turnOf};
 use crate::ring::Held;
 use crate::ring::Queue;

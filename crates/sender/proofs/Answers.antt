@@ -15,7 +15,7 @@ use Rattle.sender.specs.Calls.{Call, pushing, sending, draining, countin
 use Rattle.sender.specs.Drain.{drainSender, drainedPairs}
 use Rattle.sender.specs.Good.{Good}
 use Rattle.sender.specs.Replies.{Reply, toAsk, toCount, toPush, toSend, drainLists, drainedTo, listReplies, onLists, onSender, senderReplies}
-use Rattle.sender.specs.Sender.{view, wellFormed}
+use Rattle.sender.specs.Sender.{view}
 use Rattle.sender.specs.Sending.{Sending}
 use Rattle.sender.specs.declared.sender.Sender.{Sender}
 

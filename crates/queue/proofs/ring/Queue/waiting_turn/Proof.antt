@@ -1,6 +1,5 @@
 -- `queue::ring::Queue::waiting_turn` meets its contract: padding where nothing waits, else the turn of the first codes.
 -- Assumes nothing.
-use borrow.Author.Needs.{needs}
 use mathlib.Core.Path.{refl}
 use native.Mathlib.Omega.{arith}
 use Rattle.queue.proofs.Places.{none-wait}
