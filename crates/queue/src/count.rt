@@ -13,8 +13,8 @@ pub enum CountAnswer {
 }
 
 pub struct Counted {
-    pub answer: CountAnswer,
     pub queue: Queue,
+    pub answer: CountAnswer,
 }
 
 impl Held {

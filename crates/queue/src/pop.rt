@@ -1,10 +1,10 @@
 // Taking the next pair for the line out of the queue.
 ghost use mathlib.Core.List.{[]};
-ghost use mathlib.Core.Option.{none};
+ghost use mathlib.Core.Option.{none, some};
 ghost use mathlib.Core.Path.{_≡_};
 ghost use Prim.Native.Nat.{_≤_, _<_};
 ghost use Rattle.queue.specs.Queue.{pairOf, popCommand, popSingle, popTwo, queued};
-ghost use Rattle.queue.specs.Ring.{popOutcome, popRing, view, waitingIn};
+ghost use Rattle.queue.specs.Ring.{popOutcome, popRing, waitingIn};
 ghost use Rattle.queue.specs.Turn.{freeing, turn, turnOf};
 use crate::ring::Held;
 use crate::ring::Queue;
@@ -19,8 +19,8 @@ pub enum PopAnswer {
 }
 
 pub struct Popped {
-    pub answer: PopAnswer,
     pub queue: Queue,
+    pub answer: PopAnswer,
 }
 
 // What a pop does: the pair that goes out, how many places it frees, and what is held afterwards.
@@ -38,6 +38,17 @@ pub(crate) fn pair_of(code: Code) -> Pair
         Written::Made(pair, _) => pair,
         Written::UnknownByte => Pair(0x80, 0x80),
         Written::NoSuchRow => Pair(0x80, 0x80),
+    }
+}
+
+// The held code goes out first of all, and no place is freed.
+pub(crate) fn held_turn(code: Code) -> Turn
+    ensures { λ r. ⌜ r ≡ turn (queued [] (some code)) ⌝ }
+{
+    Turn {
+        pair: pair_of(code),
+        freed: 0,
+        held: Held::Absent,
     }
 }
 
@@ -100,20 +111,13 @@ pub(crate) fn single_turn(first: Code, second: Code) -> Turn
 }
 
 impl Queue {
-    // The turn of a queue that holds nothing.
-    pub(crate) fn waiting_turn(self) -> Turn
-        requires { ⌜ (self .start < 64) × (self .waiting ≤ 64) ⌝ }
+    // The turn of a queue in which a code waits and none is held.
+    pub(crate) fn front_turn(self) -> Turn
+        requires { ⌜ (self .start < 64) × (self .waiting ≤ 64) × (0 < self .waiting) ⌝ }
         ensures { λ r. ⌜ r ≡ turn (queued (waitingIn self) none) ⌝ }
     {
         let start = self.start;
         let waiting = self.waiting;
-        if waiting == 0 {
-            return Turn {
-                pair: Pair(0x80, 0x80),
-                freed: 0,
-                held: Held::Absent,
-            };
-        }
         let front = self.slots[start];
         let first = front.code;
         if first.byte_len() != 1 {
@@ -127,20 +131,20 @@ impl Queue {
         single_turn(first, second)
     }
 
-    // The turn of any well-formed queue: first of all the held code.
-    pub(crate) fn turn(self) -> Turn
+    // The turn of a queue that holds nothing: padding where nothing waits, and then no place of the ring is read.
+    pub(crate) fn waiting_turn(self) -> Turn
         requires { ⌜ (self .start < 64) × (self .waiting ≤ 64) ⌝ }
-        ensures { λ r. ⌜ r ≡ turn (view self) ⌝ }
+        ensures { λ r. ⌜ r ≡ turn (queued (waitingIn self) none) ⌝ }
     {
-        let held = self.held;
-        match held {
-            Held::Of(code) => Turn {
-                pair: pair_of(code),
+        let waiting = self.waiting;
+        if waiting == 0 {
+            return Turn {
+                pair: Pair(0x80, 0x80),
                 freed: 0,
                 held: Held::Absent,
-            },
-            Held::Absent => self.waiting_turn(),
+            };
         }
+        self.front_turn()
     }
 
     // The queue after a turn: the places in front are free again.
@@ -171,7 +175,11 @@ impl Queue {
                 queue: self,
             };
         }
-        let turn = self.turn();
+        let held = self.held;
+        let turn = match held {
+            Held::Of(code) => held_turn(code),
+            Held::Absent => self.waiting_turn(),
+        };
         let pair = turn.pair;
         Popped {
             answer: PopAnswer::Sent(pair),

@@ -20,9 +20,10 @@ pub enum PushAnswer {
     IllFormed,
 }
 
+// A state stands before its answer: the compiler then copies the ring straight to where the answer is kept.
 pub struct Pushed {
-    pub answer: PushAnswer,
     pub queue: Queue,
+    pub answer: PushAnswer,
 }
 
 // Whether a code is stored, passed over as NUL is, or refused.
@@ -70,11 +71,17 @@ impl Queue {
     {
         let start = self.start;
         let waiting = self.waiting;
+        let held = self.held;
         let place = (start + waiting) % 64;
-        let mut next = self;
-        next.slots[place] = Slot { code: code };
-        next.waiting = waiting + 1;
-        next
+        let mut slots = self.slots;
+        slots[place] = Slot { code: code };
+        let more = waiting + 1;
+        Queue {
+            slots: slots,
+            start: start,
+            waiting: more,
+            held: held,
+        }
     }
 
     // Puts a code behind those that wait. NUL is accepted and not stored; a refusal hands the queue back as it was.
@@ -90,30 +97,22 @@ impl Queue {
         let nul = is_nul(code);
         let domain = code.domain();
         let full = self.is_full();
-        match admission_of(nul, domain, full) {
+        let answer = match admission_of(nul, domain, full) {
             Admission::Stored => {
                 let next = self.stored(code);
-                Pushed {
+                return Pushed {
                     answer: PushAnswer::Accepted,
                     queue: next,
-                }
+                };
             }
-            Admission::NotStored => Pushed {
-                answer: PushAnswer::Accepted,
-                queue: self,
-            },
-            Admission::UnknownByte => Pushed {
-                answer: PushAnswer::UnknownByte,
-                queue: self,
-            },
-            Admission::NoSuchRow => Pushed {
-                answer: PushAnswer::NoSuchRow,
-                queue: self,
-            },
-            Admission::Full => Pushed {
-                answer: PushAnswer::Full,
-                queue: self,
-            },
+            Admission::NotStored => PushAnswer::Accepted,
+            Admission::UnknownByte => PushAnswer::UnknownByte,
+            Admission::NoSuchRow => PushAnswer::NoSuchRow,
+            Admission::Full => PushAnswer::Full,
+        };
+        Pushed {
+            answer: answer,
+            queue: self,
         }
     }
 }

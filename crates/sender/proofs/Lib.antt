@@ -1,10 +1,12 @@
 pub mod Agreement
+pub mod Answers
 pub mod AnyPadding
 pub mod Doubled
 pub mod DrainedBytes
 pub mod ExactlySoMany
 pub mod Filling
 pub mod Heard
+pub mod IllFormed
 pub mod Lent
 pub mod Limits
 pub mod NextPair

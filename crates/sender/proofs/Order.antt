@@ -63,11 +63,11 @@ pub a-drain-is-sends : (s : Sender) (out : List ℕ) (start limit : ℕ) → Goo
 a-drain-is-sends s out start limit g = drained-by s out start limit (ltb (length out) start) refl (g .formed)
 
 -- a count and a question change nothing
-count-same : (s : Sender) → Good s → countSender s .1 ≡ s
+pub count-same : (s : Sender) → Good s → countSender s .1 ≡ s
 unfolding countSender
 count-same s g = rw (g .formed) refl
 
-idle-same : (s : Sender) → Good s → idleSender s .1 ≡ s
+pub idle-same : (s : Sender) → Good s → idleSender s .1 ≡ s
 unfolding idleSender
 idle-same s g = rw (g .formed) refl
 

@@ -20,7 +20,7 @@ use Rattle.queue.proofs.Refines as ring
 use Rattle.code.proofs.Both.{both-left, both-right}
 use Rattle.queue.specs.Good.{Fit}
 use Rattle.queue.specs.Good as of-queue
-use Rattle.queue.specs.Queue.{Queued, pop}
+use Rattle.queue.specs.Queue.{Queued, count, pop}
 use Rattle.queue.specs.Ring.{leftIn, popRing, pushRing}
 use Rattle.queue.specs.Ring as queue
 use Rattle.queue.specs.declared.ring.Queue.{Queue}
@@ -156,6 +156,10 @@ unfolding idleSender
 ill-formed-idle s e = rw e refl
 
 -- what a well-formed state says of itself
+pub counts-codes : (s : Sender) → wellFormed s ≡ true → countSender s .0 ≡ answer (count (queue.view (s .queue)))
+unfolding countSender
+counts-codes s e = rw e refl
+
 pub says-whether-idle : (s : Sender) → wellFormed s ≡ true → idleSender s .0 ≡ answer (isIdle (view s))
 unfolding idleSender
 says-whether-idle s e = rw e refl

@@ -5,6 +5,7 @@ pub mod Next
 pub mod Doubled
 pub mod SendsLeft
 pub mod Calls
+pub mod Replies
 pub mod Agreement
 pub mod OneByOne
 pub mod Good

@@ -5,8 +5,8 @@ use crate::sender::Sender;
 use queue::CountAnswer;
 
 pub struct Counted {
-    pub answer: CountAnswer,
     pub sender: Sender,
+    pub answer: CountAnswer,
 }
 
 impl Sender {

@@ -14,14 +14,14 @@ pub enum DrainAnswer {
 }
 
 pub struct Drained {
-    pub answer: DrainAnswer,
     pub sender: Sender,
+    pub answer: DrainAnswer,
 }
 
 // How far a writer of pairs has come.
 pub(crate) struct Progress {
-    pub sends: usize,
     pub sender: Sender,
+    pub sends: usize,
 }
 
 impl Sender {
@@ -36,16 +36,10 @@ impl Sender {
         let mut at: usize = 0;
         while sends < limit {
             if room - at < 2 {
-                return Progress {
-                    sends: sends,
-                    sender: sender,
-                };
+                break;
             }
             if sender.has_nothing() {
-                return Progress {
-                    sends: sends,
-                    sender: sender,
-                };
+                break;
             }
             let next = sender.next();
             let pair = next.pair;

@@ -14,8 +14,8 @@ pub enum IdleAnswer {
 }
 
 pub struct Idleness {
-    pub answer: IdleAnswer,
     pub sender: Sender,
+    pub answer: IdleAnswer,
 }
 
 impl Sender {

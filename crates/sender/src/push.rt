@@ -6,8 +6,8 @@ use code::Code;
 use queue::PushAnswer;
 
 pub struct Pushed {
-    pub answer: PushAnswer,
     pub sender: Sender,
+    pub answer: PushAnswer,
 }
 
 impl Sender {

@@ -12,24 +12,24 @@ use code::Pair;
 use queue::PopAnswer;
 
 pub struct Sent {
-    pub answer: PopAnswer,
     pub sender: Sender,
+    pub answer: PopAnswer,
 }
 
 // A send from a well-formed state, which cannot be refused.
 pub(crate) struct Next {
-    pub pair: Pair,
     pub sender: Sender,
+    pub pair: Pair,
 }
 
 // What is owed once a pair of the queue has been sent: the same pair again where it is a command.
 pub(crate) fn repeat_of(pair: Pair) -> Owed
     ensures { λ r. ⌜ r ≡ owedAs (repeatOf pair) ⌝ }
 {
-    if is_command(pair) {
-        return Owed::Repeat(pair);
+    if !is_command(pair) {
+        return Owed::Absent;
     }
-    Owed::Absent
+    Owed::Repeat(pair)
 }
 
 // The pair of an answer. A well-formed queue gives one.

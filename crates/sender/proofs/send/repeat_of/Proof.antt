@@ -1,6 +1,7 @@
 -- `sender::send::repeat_of` meets its contract, by whether the pair is a command.
 -- Assumes nothing.
 use borrow.Author.Needs.{needs}
+use borrow.Author.Tests.{not-true, not-false}
 use Rattle.sender.proofs.send.repeat_of.Statement.{statement}
 use Rattle.sender.proofs.send.repeat_of.Tie as tie
 
@@ -8,10 +9,10 @@ is-command-requires : tie.Need-is-command-requires
 is-command-requires c κs = search needs
 
 returns : tie.Need-returns
-returns c = simp (← c .before .is-command .ensures, c .if1 .taken)
+returns c = simp (← c .before .is-command .ensures, not-true (c .before .is-command .result) (c .if1 .taken))
 
 returns-2 : tie.Need-returns-2
-returns-2 c = simp (← c .before .is-command .ensures, c .if1 .left)
+returns-2 c = simp (← c .before .is-command .ensures, not-false (c .before .is-command .result) (c .if1 .left))
 
 pub repeat-of-spec : {M : Type 1} → statement M
 repeat-of-spec = tie.close (tie.spec is-command-requires returns returns-2)

@@ -22,12 +22,16 @@ returns-3 : tie.Need-returns-3
 unfolding wellFormed
 returns-3 c = simp (lt-ltb (c .before .before .before .before .args .self .start) 64 (c .before .before .before .if1 .left), le-leb (c .before .before .before .before .args .self .waiting) 64 (omega arith), ← c .before .is-well-formed .ensures, not-true (c .before .is-well-formed .result) (c .if3 .taken))
 
+returns-4 : tie.Need-returns-4
+unfolding wellFormed
+returns-4 c = simp (c .if4 .taken, lt-ltb (c .before .before .before .before .before .args .self .start) 64 (c .before .before .before .before .if1 .left), ← c .before .before .is-well-formed .ensures, not-false (c .before .before .is-well-formed .result) (c .before .if3 .left))
+
 waiting-is-well-formed-requires : tie.Need-waiting-is-well-formed-requires
 waiting-is-well-formed-requires c κs = search needs
 
-returns-4 : tie.Need-returns-4
+returns-5 : tie.Need-returns-5
 unfolding wellFormed
-returns-4 c = simp (lt-ltb (c .before .before .before .before .before .args .self .start) 64 (c .before .before .before .before .if1 .left), le-leb (c .before .before .before .before .before .args .self .waiting) 64 (omega arith), ← c .before .before .is-well-formed .ensures, not-false (c .before .before .is-well-formed .result) (c .before .if3 .left), c .waiting-is-well-formed .ensures)
+returns-5 c = simp (lt-ltb (c .before .before .before .before .before .before .args .self .start) 64 (c .before .before .before .before .before .if1 .left), le-leb (c .before .before .before .before .before .before .args .self .waiting) 64 (omega arith), ← c .before .before .before .is-well-formed .ensures, not-false (c .before .before .before .is-well-formed .result) (c .before .before .if3 .left), c .waiting-is-well-formed .ensures)
 
 pub is-well-formed-spec : {M : Type 1} → statement M
 is-well-formed-spec =
@@ -37,5 +41,6 @@ is-well-formed-spec =
     returns-2
     is-well-formed-requires
     returns-3
+    returns-4
     waiting-is-well-formed-requires
-    returns-4)
+    returns-5)

@@ -54,6 +54,11 @@ stored-requires : tie.Need-stored-requires
 stored-requires c κs =
     (formed _ (is-formed (c .before .before)) .start, stored-has-room _ _ (sym (admission (c .before .before)) ∙ ap admissionOutcome (c .enum-told .given .1)))
 
+returns-2 : tie.Need-returns-2
+returns-2 c =
+    ap {B = Outcome Unit × Queue} (λ (q : Queue). (answer tt, q)) (c .stored .ensures)
+    ∙ is-pushed (c .before .before .before) _ (c .before .enum-told .given .1)
+
 enum-told-2 : tie.Need-enum-told-2
 enum-told-2 c = search needs
 
@@ -65,11 +70,6 @@ enum-told-4 c = search needs
 
 enum-told-5 : tie.Need-enum-told-5
 enum-told-5 c = search needs
-
-returns-2 : tie.Need-returns-2
-returns-2 c =
-    ap {B = Outcome Unit × Queue} (λ (q : Queue). (answer tt, q)) (c .stored .ensures)
-    ∙ is-pushed (c .before .before .before) _ (c .before .enum-told .given .1)
 
 returns-3 : tie.Need-returns-3
 returns-3 c = is-pushed (c .before .before) _ (c .enum-told2 .given .1)
@@ -95,11 +95,11 @@ push-spec =
     admission-of-requires
     enum-told
     stored-requires
+    returns-2
     enum-told-2
     enum-told-3
     enum-told-4
     enum-told-5
-    returns-2
     returns-3
     returns-4
     returns-5

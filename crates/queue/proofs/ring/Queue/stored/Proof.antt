@@ -8,17 +8,17 @@ use Rattle.queue.proofs.ring.Queue.stored.Tie as tie
 add-place : tie.Need-add-place
 add-place c = omega arith
 
-element-set-from-next : tie.Need-element-set-from-next
-element-set-from-next c = omega arith
+mul-slots : tie.Need-mul-slots
+mul-slots c = omega arith
+
+array-set-from-slots : tie.Need-array-set-from-slots
+array-set-from-slots c = omega arith
+
+add-more : tie.Need-add-more
+add-more c = omega arith
 
 returns : tie.Need-returns
 returns c = refl
 
-add-next : tie.Need-add-next
-add-next c = omega arith
-
-mul-t7 : tie.Need-mul-t7
-mul-t7 c = omega arith
-
 pub stored-spec : {M : Type 1} → statement M
-stored-spec = tie.close (tie.spec add-place mul-t7 element-set-from-next add-next returns)
+stored-spec = tie.close (tie.spec add-place mul-slots array-set-from-slots add-more returns)

@@ -1,13 +1,8 @@
--- `queue::ring::Queue::waiting_turn` meets its contract: the first one or two codes of the ring's list decide (`Turns`).
+-- `queue::ring::Queue::waiting_turn` meets its contract: padding where nothing waits, else the turn of the first codes.
 -- Assumes nothing.
-use borrow.Author.Needs.{needs}
-use borrow.Author.Tests.{eq-eqb, ne-eqb}
-use Prim.Native.Nat.{ℕ}
-use lib.Dec.{eqb}
-use mathlib.Core.Path.{refl, ap, sym, _∙_}
+use mathlib.Core.Path.{refl}
 use native.Mathlib.Omega.{arith}
-use Rattle.queue.proofs.Places.{none-wait, place-is}
-use Rattle.queue.proofs.Turns.{command-first, last-first, single-first}
+use Rattle.queue.proofs.Places.{none-wait}
 use Rattle.queue.specs.Queue.{pop}
 use Rattle.queue.proofs.ring.Queue.waiting_turn.Statement.{statement}
 use Rattle.queue.proofs.ring.Queue.waiting_turn.Tie as tie
@@ -15,71 +10,14 @@ use Rattle.queue.proofs.ring.Queue.waiting_turn.Tie as tie
 returns : tie.Need-returns
 unfolding pop
 returns c =
-    let q = c .before .args .t1 in
+    let q = c .before .args .self in
     rw (none-wait (q .slots) (q .start) (q .waiting) (c .if1 .taken)) refl
 
-mul-front : tie.Need-mul-front
-mul-front c = search needs
-
-element-copy-out-front : tie.Need-element-copy-out-front
-element-copy-out-front c = search needs
-
-byte-len-requires : tie.Need-byte-len-requires
-byte-len-requires c κs = search needs
-
-command-turn-requires : tie.Need-command-turn-requires
-command-turn-requires c κs = search needs
+front-turn-requires : tie.Need-front-turn-requires
+front-turn-requires c κs = (c .before .pre .0, c .before .pre .1, omega arith)
 
 returns-2 : tie.Need-returns-2
-returns-2 c =
-    let q = c .before .before .before .before .before .args .t1 in
-    let front = place-is (q .slots) (q .start) (c .before .before .before .before .before .pre .0) in
-    c .command-turn .ensures
-    ∙ command-first (q .slots) (q .start) (q .waiting) _ front (omega arith) (ap (λ (k : ℕ). eqb k 1) (sym (c .before .before .byte-len .ensures)) ∙ ne-eqb _ _ (c .before .if2 .taken))
-
-last-turn-requires : tie.Need-last-turn-requires
-last-turn-requires c κs = search needs
-
-returns-3 : tie.Need-returns-3
-returns-3 c =
-    let q = c .before .before .before .before .before .before .args .t1 in
-    let front = place-is (q .slots) (q .start) (c .before .before .before .before .before .before .pre .0) in
-    c .last-turn .ensures
-    ∙ last-first (q .slots) (q .start) (q .waiting) _ front (c .before .if3 .taken) (ap (λ (k : ℕ). eqb k 1) (sym (c .before .before .before .byte-len .ensures)) ∙ eq-eqb _ _ (c .before .before .if2 .left))
-
-add-behind : tie.Need-add-behind
-add-behind c = search needs
-
-mul-behind : tie.Need-mul-behind
-mul-behind c = search needs
-
-element-copy-out-behind : tie.Need-element-copy-out-behind
-element-copy-out-behind c = search needs
-
-single-turn-requires : tie.Need-single-turn-requires
-single-turn-requires c κs = search needs
-
-returns-4 : tie.Need-returns-4
-returns-4 c =
-    let q = c .before .before .before .before .before .before .before .args .t1 in
-    let front = place-is (q .slots) (q .start) (c .before .before .before .before .before .before .before .pre .0) in
-    c .single-turn .ensures
-    ∙ single-first (q .slots) (q .start) (q .waiting) _ _ front refl (omega arith) (ap (λ (k : ℕ). eqb k 1) (sym (c .before .before .before .before .byte-len .ensures)) ∙ eq-eqb _ _ (c .before .before .before .if2 .left))
+returns-2 c = c .front-turn .ensures
 
 pub waiting-turn-spec : {M : Type 1} → statement M
-waiting-turn-spec =
-    tie.close
-    (tie.spec
-    returns
-    mul-front
-    element-copy-out-front
-    byte-len-requires
-    command-turn-requires
-    returns-2
-    last-turn-requires
-    returns-3
-    add-behind
-    mul-behind
-    element-copy-out-behind
-    single-turn-requires
-    returns-4)
+waiting-turn-spec = tie.close (tie.spec returns front-turn-requires returns-2)

@@ -35,14 +35,6 @@ loop-holds c = (
 sub-if1 : tie.Need-sub-if1 Inv-loop μ-loop
 sub-if1 c = omega arith
 
-same-length : tie.Need-same-length Inv-loop μ-loop
-same-length c = search needs
-
-returns : tie.Need-returns Inv-loop μ-loop
-returns c =
-    let loop = c .before .before .loop in
-    sym (done-without-room _ (loop .sends) (loop .sender) (loop .part) (loop .at) (omega arith)) ∙ loop .inv .0
-
 has-nothing-requires : tie.Need-has-nothing-requires Inv-loop μ-loop
 has-nothing-requires c κs = search needs
 
@@ -51,6 +43,14 @@ same-length-2 c = search needs
 
 returns-2 : tie.Need-returns-2 Inv-loop μ-loop
 returns-2 c =
+    let loop = c .before .before .loop in
+    sym (done-without-room _ (loop .sends) (loop .sender) (loop .part) (loop .at) (omega arith)) ∙ loop .inv .0
+
+same-length-3 : tie.Need-same-length-3 Inv-loop μ-loop
+same-length-3 c = search needs
+
+returns-3 : tie.Need-returns-3 Inv-loop μ-loop
+returns-3 c =
     let loop = c .before .before .before .before .loop in
     sym (done-when-idle _ (loop .sends) (loop .sender) (loop .part) (loop .at) (sym (c .before .has-nothing .ensures) ∙ c .if2 .taken))
     ∙ loop .inv .0
@@ -88,11 +88,11 @@ loop-again c =
       omega arith,
     )
 
-same-length-3 : tie.Need-same-length-3 Inv-loop μ-loop
-same-length-3 c = search needs
+same-length : tie.Need-same-length Inv-loop μ-loop
+same-length c = search needs
 
-returns-3 : tie.Need-returns-3 Inv-loop μ-loop
-returns-3 c =
+returns : tie.Need-returns Inv-loop μ-loop
+returns c =
     let loop = c .before .loop in
     sym (done-at-limit _ (loop .sends) (loop .sender) (loop .part) (loop .at) (c .loop-test .left)) ∙ loop .inv .0
 
@@ -104,11 +104,7 @@ write-pairs-spec =
     μ-loop
     loop-holds
     sub-if1
-    same-length
-    returns
     has-nothing-requires
-    same-length-2
-    returns-2
     next-requires
     slice-write-part
     add-part
@@ -117,5 +113,9 @@ write-pairs-spec =
     add-sends
     loop-less
     loop-again
+    same-length
+    returns
+    same-length-2
+    returns-2
     same-length-3
     returns-3)
