@@ -33,13 +33,14 @@ def prove(name, root):
 
 
 def copy_crates():
-    """This tree's crates, of which nothing that is proved here is proved again there."""
-    shutil.rmtree(OURS, ignore_errors=True)
+    """This tree's crates. What is proved here is not proved again there, nor there twice."""
+    for made_anew in ("crates", "target/rlib"):
+        shutil.rmtree(OURS / made_anew, ignore_errors=True)
     for name in CRATES:
         if name != "calls":
             shutil.copytree(ROOT / "crates" / name, OURS / "crates" / name)
     for kept in ("rlib", "stamp"):
-        shutil.copytree(ROOT / "target" / kept, OURS / "target" / kept)
+        shutil.copytree(ROOT / "target" / kept, OURS / "target" / kept, dirs_exist_ok=True)
     write(OURS / "crates.txt", "".join(f"{name}:{above}\n" for name, above in CRATES.items()))
 
 

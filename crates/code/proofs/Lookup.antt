@@ -6,7 +6,7 @@ use mathlib.Core.Option.{Option, none, some}
 use mathlib.Core.Path.{_≡_, refl, ap, sym, subst, _∙_}
 use Prim.Native.Nat.{ℕ, zero, suc, _-_, _≤_, _<_}
 use native.Mathlib.Omega.{arith}
-use borrow.Author.Tests.{le-ltb, ne-eqb}
+use borrow.Author.Tests.{eqb-true, le-ltb, ne-eqb}
 use lib.Dec.{eqb, ltb}
 use lib.ListN.{getD, length, replicate}
 use Rattle.code.proofs.Agree.{agree, agree-from}
@@ -14,9 +14,9 @@ use Rattle.code.proofs.First.{first-inside, first-none}
 use Rattle.code.proofs.TableRules.{letter-once}
 use Rattle.code.specs.Characters.{standard, symbols}
 use Rattle.code.specs.Code.{fromChar, letterCode, symbolCode}
-use Rattle.code.specs.Outcome.{Outcome, answer, refused}
+use Rattle.code.specs.Outcome.{refused}
 use Rattle.code.specs.Position.{position, later}
-use Rattle.code.specs.Tables.{controlEntries, foundAt, latinPlaces, placeOr80, pointOf}
+use Rattle.code.specs.Tables.{asAscii, controlEntries, foundAt, latinPlaces, placeOr80, pointOf}
 use Rattle.code.specs.declared.channel.Channel.{Channel}
 use Rattle.code.specs.declared.tables.Found.the-variants.{At, Nothing}
 
@@ -25,27 +25,40 @@ pub below-space : (c : ℕ) → c < 32 → position c standard ≡ none
 unfolding standard
 below-space c less = agree (λ (x : ℕ). position x standard) (λ (x : ℕ). none) 32 refl c less
 
-pub at-own-byte : (c : ℕ) → 32 ≤ c → c < 128 → getD standard (c - 32) 0 ≡ c → position c standard ≡ some (c - 32)
-at-own-byte c from below own = ap (λ (x : ℕ). position x standard) (sym own) ∙ letter-once (c - 32) (omega arith)
+pub at-own-byte : (c : ℕ) → 32 ≤ c → c < 128 → asAscii c ≡ true → position c standard ≡ some (c - 32)
+at-own-byte c from below own =
+    ap (λ (x : ℕ). position x standard) (sym (eqb-true (getD standard (c - 32) 0) c own)) ∙ letter-once (c - 32) (omega arith)
 
-unless-own : (c : ℕ) → 32 ≤ c → c < 128 → cond (eqb (getD standard (c - 32) 0) c) none (position c standard) ≡ none
+not-this : {A : Type 0} (t : Bool) (x y : A) → t ≡ false → cond t x y ≡ x → y ≡ x
+not-this true x y e h = absurd (true≢false e)
+not-this false x y e h = h
+
+unless-own : (c : ℕ) → 32 ≤ c → c < 128 → cond (asAscii c) none (position c standard) ≡ none
 unfolding standard
 unless-own c from below =
-    agree-from (λ (x : ℕ). cond (eqb (getD standard (x - 32) 0) x) none (position x standard)) (λ (x : ℕ). none) 32 96 refl c from below
+    agree-from (λ (x : ℕ). cond (asAscii x) none (position x standard)) (λ (x : ℕ). none) 32 96 refl c from below
 
-not-this : (t : Bool) (o : Option ℕ) → t ≡ false → cond t none o ≡ none → o ≡ none
-not-this true o e h = absurd (true≢false e)
-not-this false o e h = h
+pub not-own-byte : (c : ℕ) → 32 ≤ c → c < 128 → asAscii c ≡ false → position c standard ≡ none
+not-own-byte c from below other = not-this (asAscii c) none (position c standard) other (unless-own c from below)
 
-pub not-own-byte : (c : ℕ) → 32 ≤ c → c < 128 → (getD standard (c - 32) 0 ≡ c → ⊥) → position c standard ≡ none
-not-own-byte c from below other =
-    not-this (eqb (getD standard (c - 32) 0) c) (position c standard) (ne-eqb (getD standard (c - 32) 0) c other) (unless-own c from below)
+-- the bytes whose characters are not ASCII's, in the order in which the last arm has them
+abbrev pub otherBytes : List ℕ
+otherBytes = 0x7F ∷ 0x7E ∷ 0x7D ∷ 0x7C ∷ 0x7B ∷ 0x60 ∷ 0x5F ∷ 0x5E ∷ 0x5C ∷ 0x2A ∷ 0x27 ∷ []
 
--- a number that is no key stands nowhere in a list whose numbers are all low or keys
 abbrev stands : Option ℕ → Bool
 stands none = false
 stands (some i) = true
 
+unless-other : (b : ℕ) → 32 ≤ b → b < 128 → cond (stands (position b otherBytes)) true (asAscii b) ≡ true
+unfolding standard
+unless-other b from below =
+    agree-from (λ (x : ℕ). cond (stands (position x otherBytes)) true (asAscii x)) (λ (x : ℕ). true) 32 96 refl b from below
+
+pub as-ascii : (b : ℕ) → 32 ≤ b → b < 128 → position b otherBytes ≡ none → asAscii b ≡ true
+as-ascii b from below other =
+    not-this (stands (position b otherBytes)) true (asAscii b) (ap stands other) (unless-other b from below)
+
+-- a number that is no key stands nowhere in a list whose numbers are all low or keys
 module _ (low : ℕ) (keys : List ℕ) where
   abbrev lowOrKey : ℕ → Bool
   lowOrKey y = cond (ltb y low) true (stands (position y keys))

@@ -2,12 +2,12 @@
 -- code point below. The laws of `proofs/Meaning` and `proofs/TableRules` tie it to the definitions of `Read`, `Write` and
 -- `Characters`.
 use Prim.Native.Nat.{ℕ, zero, suc, _+_, _*_, _-_, _/_, _%_}
-use mathlib.Core.Bool.{cond}
+use mathlib.Core.Bool.{Bool, cond}
 use mathlib.Core.List.{List, [], _∷_, _++_}
 use mathlib.Core.Option.{Option, none, some}
 use lib.Dec.{eqb, ltb}
 use lib.ListN.{getD, replicate}
-use Rattle.code.specs.Characters.{special, spanish, french, portuguese, german, symbols}
+use Rattle.code.specs.Characters.{standard, special, spanish, french, portuguese, german, symbols}
 use Rattle.code.specs.Control.{commandAt, tabAt}
 use Rattle.code.specs.Position.{position}
 use Rattle.code.specs.Read.{within}
@@ -45,6 +45,10 @@ abbrev pub controlAt : ℕ → Control
 controlAt i =
     cond (ltb i 80) (control.Symbol (symbolAt i))
     (cond (ltb i 96) (control.Command (commandAt (i - 80))) (control.Tab (tabAt (i - 96))))
+
+-- whether the standard character of a byte from 20 to 7F is ASCII's
+abbrev pub asAscii : ℕ → Bool
+asAscii b = eqb (getD standard (b - 32) 0) b
 
 -- the places of the code points A0 to FF among the symbols, 80 where there is none
 abbrev pub placeOr80 : Option ℕ → ℕ

@@ -6,8 +6,7 @@ ghost use mathlib.Core.Path.{_≡_};
 ghost use Prim.Native.Nat.{_≤_, _<_};
 ghost use Rattle.code.specs.Characters.{standard, symbols};
 ghost use Rattle.code.specs.Position.{position};
-ghost use Rattle.code.specs.Tables.{pointOf, foundAt};
-use crate::character::standard_point;
+ghost use Rattle.code.specs.Tables.{asAscii, foundAt, pointOf};
 use crate::pair::Pair;
 
 // The pair of each row's white preamble, in row order 0 to 14: the style and the underline are added to the second byte.
@@ -249,10 +248,31 @@ pub(crate) fn find_standard(point: u32) -> Found
     if 0x80 <= point {
         return find_beyond_ascii(point);
     }
-    if standard_point(point as u8) == point {
+    if is_as_ascii(point as u8) {
         Found::At((point - 0x20) as usize)
     } else {
         Found::Nothing
+    }
+}
+
+// Whether a byte's standard character is ASCII's, as all are but eleven.
+pub(crate) fn is_as_ascii(byte: u8) -> bool
+    requires { ⌜ (32 ≤ byte) × (byte < 128) ⌝ }
+    ensures { λ r. ⌜ r ≡ asAscii byte ⌝ }
+{
+    match byte {
+        0x27 => false, // ’
+        0x2A => false, // á
+        0x5C => false, // é
+        0x5E => false, // í
+        0x5F => false, // ó
+        0x60 => false, // ú
+        0x7B => false, // ç
+        0x7C => false, // ÷
+        0x7D => false, // Ñ
+        0x7E => false, // ñ
+        0x7F => false, // █
+        _ => true,
     }
 }
 

@@ -16,11 +16,11 @@ find-beyond-ascii-requires c κs = search needs
 returns-2 : tie.Need-returns-2
 returns-2 c = search needs
 
-cast-standard-point : tie.Need-cast-standard-point
-cast-standard-point c = search needs
+cast-is-as-ascii : tie.Need-cast-is-as-ascii
+cast-is-as-ascii c = search needs
 
-standard-point-requires : tie.Need-standard-point-requires
-standard-point-requires c κs = search needs
+is-as-ascii-requires : tie.Need-is-as-ascii-requires
+is-as-ascii-requires c κs = search needs
 
 cast-t7 : tie.Need-cast-t7
 cast-t7 c = search needs
@@ -28,12 +28,12 @@ cast-t7 c = search needs
 returns-3 : tie.Need-returns-3
 returns-3 c =
     let ascii = c .before .before in
-    sym (ap foundAt (at-own-byte (ascii .before .before .args .point) (ascii .before .if1 .left) (ascii .if2 .left) (sym (c .before .standard-point .ensures) ∙ c .if3 .taken)))
+    sym (ap foundAt (at-own-byte (ascii .before .before .args .point) (ascii .before .if1 .left) (ascii .if2 .left) (sym (c .before .is-as-ascii .ensures) ∙ c .if3 .taken)))
 
 returns-4 : tie.Need-returns-4
 returns-4 c =
     let ascii = c .before .before in
-    sym (ap foundAt (not-own-byte (ascii .before .before .args .point) (ascii .before .if1 .left) (ascii .if2 .left) (λ own. c .if3 .left (c .before .standard-point .ensures ∙ own))))
+    sym (ap foundAt (not-own-byte (ascii .before .before .args .point) (ascii .before .if1 .left) (ascii .if2 .left) (sym (c .before .is-as-ascii .ensures) ∙ c .if3 .left)))
 
 pub find-standard-spec : {M : Type 1} → statement M
 find-standard-spec =
@@ -42,8 +42,8 @@ find-standard-spec =
     returns
     find-beyond-ascii-requires
     returns-2
-    cast-standard-point
-    standard-point-requires
+    cast-is-as-ascii
+    is-as-ascii-requires
     cast-t7
     returns-3
     returns-4)
