@@ -50,13 +50,16 @@ def instructions(emulator, programs, oracle):
         yield (measure.instructions(emulator, words, of_some) - measure.instructions(emulator, words, of_none)) / COUNTED
 
 
-def costs(emulator, folder):
-    """The times of ours and of the crate's, and their instructions where they are emulated."""
+def build(folder):
+    """The oracle, which makes the streams, and the words of ours and of the crate's, which lies in a folder."""
     built = subprocess.run([ROOT / "tools/build-oracle"], stdout=subprocess.PIPE, check=True, text=True)
-    oracle = built.stdout.strip()
     prove("listing", ROOT)
     HERE.mkdir(parents=True, exist_ok=True)
-    programs = {"ours": words_of(ROOT, "listing"), "crate": [folder / "listing"]}
+    return built.stdout.strip(), {"ours": words_of(ROOT, "listing"), "crate": [folder / "listing"]}
+
+
+def costs(emulator, oracle, programs):
+    """The times of ours and of the crate's, and their instructions where they are emulated."""
     timed = {whose: [*emulator, *words] for whose, words in programs.items()}
     yield nanoseconds(timed, {pairs: make(oracle, pairs) for pairs in (0, PAIRS)})
     if emulator:
