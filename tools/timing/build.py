@@ -13,14 +13,7 @@ ROOT = HERE.parent.parent
 # A repository of its own, so that no crate of this one is there for the timing alone. Its program's source is kept under
 # another ending, since a source that no crate of this one has would be refused here.
 OURS = ROOT / "target/timing"
-CRATES = {
-    "code": "",
-    "event": " code",
-    "receiver": " event code",
-    "queue": " code",
-    "sender": " queue receiver event code",
-    "calls": " sender queue receiver event code io libc",
-}
+CALLED = ("code", "event", "receiver", "queue", "sender")
 
 
 def write(path, text):
@@ -36,12 +29,13 @@ def copy_crates():
     """This tree's crates. What is proved here is not proved again there, nor there twice."""
     for made_anew in ("crates", "target/rlib"):
         shutil.rmtree(OURS / made_anew, ignore_errors=True)
-    for name in CRATES:
-        if name != "calls":
-            shutil.copytree(ROOT / "crates" / name, OURS / "crates" / name)
+    for name in CALLED:
+        shutil.copytree(ROOT / "crates" / name, OURS / "crates" / name)
     for kept in ("rlib", "stamp"):
         shutil.copytree(ROOT / "target" / kept, OURS / "target" / kept, dirs_exist_ok=True)
-    write(OURS / "crates.txt", "".join(f"{name}:{above}\n" for name, above in CRATES.items()))
+    listed = (ROOT / "crates.txt").read_text().splitlines()
+    lines = [line for line in listed if line.split(":")[0] in CALLED]
+    write(OURS / "crates.txt", "\n".join([*lines, f"calls: {' '.join(CALLED)} io libc"]) + "\n")
 
 
 def build_ours():
