@@ -1,4 +1,4 @@
-//! A program of its own, which tools/bench-listing builds: the listing over the crate, from standard input to standard
+//! A program of its own, which tools/build-timing builds: the listing over the crate, from standard input to standard
 //! output. It is not part of bench.rs, since beside it the compiler makes other code of the calls that are timed there.
 //!
 //! It begins at the C library's `main`, as bench.rs does and for the same reason.
