@@ -1,19 +1,16 @@
--- 01's pairs tried by hand, those of the queue: an empty queue, H before Á, Á alone, H i !, and the 65th code with NUL
--- after it, with every reply. antt computes each from the definitions of the list; the ring answers the same.
+-- 01's pairs tried by hand, those of the queue that are not marked P: H i !, and the 65th code with NUL after it, with every
+-- reply. antt computes each from the definitions of the list; the ring answers the same. Those marked P are the sender's
+-- `TriedByHand`, one list of all layers.
 -- Assumes nothing.
 use mathlib.Core.List.{List, [], _∷_, _++_}
 use mathlib.Core.Path.{_≡_, refl, _∙_}
 use lib.Count.{ones, onesIn}
 use lib.ListN.{replicate}
-use Rattle.code.specs.Channel.{channelOne}
 use Rattle.code.specs.Letter.{letterAt}
 use Rattle.code.specs.Outcome.{answer, refused}
-use Rattle.code.specs.Symbol.{symbolAt}
 use Rattle.code.specs.Write.{inDomain, pair, writeCode}
 use Rattle.code.specs.declared.code.Code.{Code}
 use Rattle.code.specs.declared.code.Code.the-variants as code
-use Rattle.code.specs.declared.control.CodeField.the-variants.{Absent}
-use Rattle.code.specs.declared.control.Control.the-variants as control
 use Rattle.queue.proofs.FirstInFirstOut.{ring-answers-as-the-list}
 use Rattle.queue.proofs.Refines.{fresh-good}
 use Rattle.queue.specs.Calls.{Call, Reply, counting, listReplies, popping, pushing, ringReplies, toCount, toPop, toPush}
@@ -32,26 +29,19 @@ letter-i = code.Letter (letterAt 0x49)
 abbrev exclamation : Code
 exclamation = code.Letter (letterAt 0x01)
 
--- 12 20, the first symbol of the second row of sixteen
-abbrev A-acute : Code
-A-acute = code.Control (record { field = Absent; channel = channelOne; control = control.Symbol (symbolAt 16) })
-
 -- what the replies to each sequence of calls are to be, those to the pushes among them
 abbrev Tried : (List Call → List Reply) → Type 0
 Tried replies =
-    (replies (popping ∷ []) ≡ toPop (answer (pair 0x80 0x80)) ∷ [])
-    × (replies (pushing letter-H ∷ pushing A-acute ∷ popping ∷ popping ∷ []) ≡ accepted ∷ accepted ∷ toPop (answer (pair 0xC8 0x20)) ∷ toPop (answer (pair 0x92 0x20)) ∷ [])
-    × (replies (pushing A-acute ∷ popping ∷ popping ∷ []) ≡ accepted ∷ toPop (answer (pair 0x20 0x80)) ∷ toPop (answer (pair 0x92 0x20)) ∷ [])
-    × (replies (pushing letter-H ∷ pushing letter-i ∷ pushing exclamation ∷ popping ∷ popping ∷ []) ≡ accepted ∷ accepted ∷ accepted ∷ toPop (answer (pair 0xC8 0xE9)) ∷ toPop (answer (pair 0xA1 0x80)) ∷ [])
+    (replies (pushing letter-H ∷ pushing letter-i ∷ pushing exclamation ∷ popping ∷ popping ∷ []) ≡ accepted ∷ accepted ∷ accepted ∷ toPop (answer (pair 0xC8 0xE9)) ∷ toPop (answer (pair 0xA1 0x80)) ∷ [])
     × (replies (replicate 64 (pushing letter-H) ++ (pushing letter-H ∷ pushing code.Nul ∷ counting ∷ [])) ≡ replicate 64 accepted ++ (toPush (refused 7) ∷ accepted ∷ toCount (answer 64) ∷ []))
 
 pub tried-by-hand : Tried (λ (cs : List Call). listReplies cs empty)
 unfolding ones onesIn writeCode inDomain admit pairOf pop
-tried-by-hand = (refl, refl, refl, refl, refl)
+tried-by-hand = (refl, refl)
 
 -- what replies alike passes alike, and from a fresh queue on the ring replies as the list does
 tried-as : (f g : List Call → List Reply) → ((cs : List Call) → g cs ≡ f cs) → Tried f → Tried g
-tried-as f g alike told = (alike _ ∙ told .0, alike _ ∙ told .1, alike _ ∙ told .2, alike _ ∙ told .3, alike _ ∙ told .4)
+tried-as f g alike told = (alike _ ∙ told .0, alike _ ∙ told .1)
 
 pub tried-on-the-ring : Tried (λ (cs : List Call). ringReplies cs freshRing)
 tried-on-the-ring =

@@ -2,10 +2,10 @@
 -- each pair were read once. Along a stretch the receiver holds no command before the hit, and the stretch's own behind it;
 -- so of the two copies of each pair exactly one acts, the first before the hit and the second behind it.
 -- Assumes nothing.
-use mathlib.Core.Bool.{Bool, true, false, cond, _&&_, true≢false}
+use mathlib.Core.Bool.{Bool, true, false, cond, true≢false}
 use mathlib.Core.List.{List, [], _∷_}
 use mathlib.Core.Option.{Option, none, some}
-use mathlib.Core.Path.{_≡_, refl, ap, ap₂, sym, subst, _∙_}
+use mathlib.Core.Path.{_≡_, refl, ap, sym, subst, _∙_}
 use Rattle.code.proofs.Both.{both-true}
 use Rattle.code.proofs.Written.{read-as-command}
 use Rattle.code.specs.Outcome.{Outcome, answer, refused}

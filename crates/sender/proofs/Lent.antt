@@ -2,13 +2,12 @@
 -- start on, and comes back with nothing behind it.
 -- Assumes nothing.
 use mathlib.Core.Bool.{true, false}
-use mathlib.Core.List.{List, _++_, append-nil}
+use mathlib.Core.List.{List, _++_}
 use mathlib.Core.Path.{_≡_, refl, ap, sym, _∙_}
 use Prim.Native.Nat.{ℕ, _-_, _≤_, _<_}
-use native.Mathlib.Omega.{arith}
 use borrow.Author.Tests.{le-ltb, lt-ltb}
-use lib.ListN.{drop, drop-of-length-le, length, length-drop, take}
-use lib.Seq.{take-all}
+use lib.ListN.{drop, length, take}
+use Rattle.code.proofs.LentPart.{lent-part, with-part}
 use Rattle.code.specs.Outcome.{Outcome, answer, refused}
 use Rattle.sender.specs.Drain.{drainSender, drained, drainedPairs}
 use Rattle.sender.specs.Next.{filling, progressOutcome}
@@ -29,20 +28,9 @@ pub drained-as : (s : Sender) (out : List ℕ) (start limit : ℕ) → wellForme
 unfolding drainSender
 drained-as s out start limit e inside = rw (e, le-ltb (length out) start inside) refl
 
--- an output whose part from the start on is now ys
-abbrev withPart : List ℕ → ℕ → List ℕ → List ℕ
-withPart out start ys = take start out ++ (ys ++ drop (length out - start) (drop start out))
-
-with-part : (out : List ℕ) (start : ℕ) (ys : List ℕ) → withPart out start ys ≡ take start out ++ ys
-with-part out start ys =
-    let short : length (drop start out) ≤ length out - start = omega (arith, length-drop start out) in
-    ap (λ (l : List ℕ). take start out ++ (ys ++ l)) (drop-of-length-le (drop start out) short)
-    ∙ ap (λ (l : List ℕ). take start out ++ l) (append-nil ys)
-
 -- what the writer of pairs did to the part is what the drain does to the output
 pub lent-part-is-drained : (s : Sender) (out : List ℕ) (start limit : ℕ) (r : Progress) (ys : List ℕ) → wellFormed s ≡ true → start ≤ length out → progressOutcome r ys ≡ filling s (take (length out - start) (drop start out)) limit → (answer (r .sends), r .sender, take start out ++ (ys ++ drop (length out - start) (drop start out))) ≡ drainSender s out start limit
 lent-part-is-drained s out start limit r ys e inside done =
-    let part = take-all (length out - start) (drop start out) (omega (arith, length-drop start out)) in
     ap {B = Outcome ℕ × Sender × List ℕ} (λ (l : List ℕ). (answer (r .sends), r .sender, l)) (with-part out start ys)
-    ∙ ap {B = Outcome ℕ × Sender × List ℕ} (λ (x : ℕ × Sender × List ℕ). (answer (x .0), x .1, take start out ++ x .2)) (done ∙ ap (λ (l : List ℕ). filling s l limit) part)
+    ∙ ap {B = Outcome ℕ × Sender × List ℕ} (λ (x : ℕ × Sender × List ℕ). (answer (x .0), x .1, take start out ++ x .2)) (done ∙ ap (λ (l : List ℕ). filling s l limit) (lent-part out start))
     ∙ sym (drained-as s out start limit e inside)

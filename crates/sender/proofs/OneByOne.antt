@@ -1,7 +1,7 @@
 -- The line as the letter has it, of whole stretches, and the same pair by pair: each follows from the other, where what
 -- was sent has odd parity.
 -- Assumes nothing.
-use mathlib.Core.Bool.{Bool, true, false, cond, _&&_, true≢false}
+use mathlib.Core.Bool.{Bool, true, false, cond, true≢false}
 use mathlib.Core.List.{List, [], _∷_, _++_}
 use mathlib.Core.Option.{Option, none, some}
 use mathlib.Core.Path.{_≡_, refl, ap, ap₂, sym, subst, _∙_}
