@@ -1,12 +1,8 @@
 -- What the last arm of a `match` on a number knows: the number is none of the keys before it.
 -- Assumes nothing.
-use mathlib.Core.List.{List, [], _∷_}
-use mathlib.Core.Option.{none}
-use mathlib.Core.Path.{_≡_, refl, ap}
+use mathlib.Core.Path.{_≡_}
 use Prim.Native.Nat.{ℕ, zero, suc, _≤_, _<_, zero-le}
 use native.Mathlib.Omega.{arith}
-use borrow.Author.Tests.{ne-eqb}
-use Rattle.code.specs.Position.{position, later}
 
 -- a number is none of 0 to k - 1, as the last arm has it
 abbrev pub NoKey : ℕ → ℕ → Type 0
@@ -20,12 +16,3 @@ past-keys n (suc k) h = let below : k ≤ n = past-keys n k (h .0) in let other 
 -- with keys 0 to k - 1 gone and n at most k, n is k
 pub last-key : (n k : ℕ) → n < suc k → NoKey n k → n ≡ k
 last-key n k small h = let large : k ≤ n = past-keys n k h in omega arith
-
--- of any keys, the last of them first
-abbrev pub NoneOf : ℕ → List ℕ → Type 0
-NoneOf n [] = Unit
-NoneOf n (k ∷ ks) = NoneOf n ks × (n ≡ k → ⊥)
-
-pub none-of : (n : ℕ) (ks : List ℕ) → NoneOf n ks → position n ks ≡ none
-none-of n [] h = refl
-none-of n (k ∷ ks) h = rw (ne-eqb n k (h .1)) (ap later (none-of n ks (h .0)))

@@ -1,36 +1,42 @@
--- The rules of the tables, each once over its table: the pairs rise, so that none stands twice; the bytes of what stands
--- there are read as it, and it is written as them; a character stands in one place.
+-- The rules of the tables, each once over its table: the bytes rise, so that no byte or pair stands twice; an entry's
+-- bytes are read as what stands there, and what stands there is written as its bytes; a character stands in one place.
 -- Assumes nothing.
 use mathlib.Core.Option.{none, some}
 use mathlib.Core.Path.{_≡_, refl}
-use Prim.Native.Nat.{ℕ, _+_, _/_, _%_, _<_}
+use Prim.Native.Nat.{ℕ, _/_, _%_, _<_}
 use lib.Count.{ones, onesIn}
 use lib.ListN.{getD}
 use Rattle.code.proofs.Agree.{agree}
 use Rattle.code.proofs.Increasing.{Increasing, increasing}
 use Rattle.code.specs.Characters.{standard, symbols}
-use Rattle.code.specs.Letter.{letterAt}
 use Rattle.code.specs.Outcome.{answer}
 use Rattle.code.specs.Position.{position}
 use Rattle.code.specs.Read.{meaning, rowPrefixes, single}
-use Rattle.code.specs.Tables.{bytesOf, controlAt, controlEntries}
+use Rattle.code.specs.Tables.{bytesOf, codeAt, codeEntries, controlAt, controlEntries}
 use Rattle.code.specs.Write.{asSingle, controlBytes, twoBytes, writeCode}
-use Rattle.code.specs.declared.code.Code.the-variants as code
+
+pub characters-rise : Increasing codeEntries
+unfolding codeEntries standard
+characters-rise = increasing codeEntries tt
 
 pub controls-rise : Increasing controlEntries
 unfolding controlEntries
 controls-rise = increasing controlEntries tt
 
+abbrev codeBytes : ℕ → ℕ
+codeBytes i = bytesOf (getD codeEntries i 0)
+
 abbrev entryBytes : ℕ → ℕ
 entryBytes i = bytesOf (getD controlEntries i 0)
 
--- the characters, both ways
-pub character-read : (n : ℕ) → n < 96 → single (0x20 + n) ≡ code.Letter (letterAt n)
-character-read n less = agree (λ (x : ℕ). single (0x20 + x)) (λ (x : ℕ). code.Letter (letterAt x)) 96 refl n less
+-- the table of characters, both ways
+pub entry-read : (i : ℕ) → i < 97 → single (codeBytes i) ≡ codeAt i
+unfolding codeEntries standard
+entry-read i less = agree (λ (x : ℕ). single (codeBytes x)) codeAt 97 refl i less
 
-pub character-written : (n : ℕ) → n < 96 → writeCode (code.Letter (letterAt n)) ≡ asSingle (0x20 + n)
-unfolding ones onesIn writeCode
-character-written n less = agree (λ (x : ℕ). writeCode (code.Letter (letterAt x))) (λ (x : ℕ). asSingle (0x20 + x)) 96 refl n less
+pub entry-written : (i : ℕ) → i < 97 → writeCode (codeAt i) ≡ asSingle (codeBytes i)
+unfolding ones onesIn writeCode codeEntries standard
+entry-written i less = agree (λ (x : ℕ). writeCode (codeAt x)) (λ (x : ℕ). asSingle (codeBytes x)) 97 refl i less
 
 -- the control table, both ways
 pub control-read : (i : ℕ) → i < 99 → meaning (entryBytes i / 256) (entryBytes i % 256) ≡ some (controlAt i)

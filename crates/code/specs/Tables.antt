@@ -1,17 +1,19 @@
 -- How the code lays its tables out, which no public promise mentions: an entry is one number, its bytes above and its
 -- code point below. The laws of `proofs/Meaning` and `proofs/TableRules` tie it to the definitions of `Read`, `Write` and
 -- `Characters`.
-use Prim.Native.Nat.{ℕ, zero, suc, _+_, _*_, _-_, _/_, _%_}
-use mathlib.Core.Bool.{Bool, cond}
+use Prim.Native.Nat.{ℕ, suc, _+_, _*_, _-_, _/_, _%_}
+use mathlib.Core.Bool.{cond}
 use mathlib.Core.List.{List, [], _∷_, _++_}
 use mathlib.Core.Option.{Option, none, some}
 use lib.Dec.{eqb, ltb}
 use lib.ListN.{getD, replicate}
-use Rattle.code.specs.Characters.{standard, special, spanish, french, portuguese, german, symbols}
+use Rattle.code.specs.Characters.{standard, special, spanish, french, portuguese, german}
 use Rattle.code.specs.Control.{commandAt, tabAt}
-use Rattle.code.specs.Position.{position}
+use Rattle.code.specs.Letter.{letterAt}
 use Rattle.code.specs.Read.{within}
 use Rattle.code.specs.Symbol.{symbolAt}
+use Rattle.code.specs.declared.code.Code.{Code}
+use Rattle.code.specs.declared.code.Code.the-variants as code
 use Rattle.code.specs.declared.control.Control.{Control}
 use Rattle.code.specs.declared.control.Control.the-variants as control
 use Rattle.code.specs.declared.read.Meaning.{Meaning}
@@ -19,7 +21,7 @@ use Rattle.code.specs.declared.read.Meaning.the-variants as meant
 use Rattle.code.specs.declared.tables.Found.{Found}
 use Rattle.code.specs.declared.tables.Found.the-variants.{At, Nothing}
 
--- the two bytes of a control code
+-- the byte of a character, or the two bytes of a control code
 abbrev pub bytesOf : ℕ → ℕ
 bytesOf e = e / 65536
 
@@ -35,32 +37,23 @@ abbrev pub entries : ℕ → List ℕ → List ℕ
 entries bytes [] = []
 entries bytes (p ∷ ps) = (bytes * 65536 + p) ∷ entries (suc bytes) ps
 
+-- NUL, then 0x20 to 0x7F
+unfoldable pub codeEntries : List ℕ
+codeEntries = 0 ∷ entries 0x20 standard
+
 -- the symbols, the commands 14 20 to 14 2F and the tabs 17 21 to 17 23
 unfoldable pub controlEntries : List ℕ
 controlEntries =
     entries 0x1130 special ++ entries 0x1220 spanish ++ entries 0x1230 french ++ entries 0x1320 portuguese
     ++ entries 0x1330 german ++ entries 0x1420 (replicate 16 0) ++ entries 0x1721 (replicate 3 0)
 
+abbrev pub codeAt : ℕ → Code
+codeAt i = cond (eqb i 0) code.Nul (code.Letter (letterAt (i - 1)))
+
 abbrev pub controlAt : ℕ → Control
 controlAt i =
     cond (ltb i 80) (control.Symbol (symbolAt i))
     (cond (ltb i 96) (control.Command (commandAt (i - 80))) (control.Tab (tabAt (i - 96))))
-
--- whether the standard character of a byte from 20 to 7F is ASCII's
-abbrev pub asAscii : ℕ → Bool
-asAscii b = eqb (getD standard (b - 32) 0) b
-
--- the places of the code points A0 to FF among the symbols, 80 where there is none
-abbrev pub placeOr80 : Option ℕ → ℕ
-placeOr80 none = 80
-placeOr80 (some i) = i
-
-abbrev pub placesFrom : ℕ → ℕ → List ℕ
-placesFrom x zero = []
-placesFrom x (suc n) = placeOr80 (position x symbols) ∷ placesFrom (suc x) n
-
-unfoldable pub latinPlaces : List ℕ
-latinPlaces = placesFrom 0xA0 96
 
 abbrev pub foundAt : Option ℕ → Found
 foundAt none = Nothing

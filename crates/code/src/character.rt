@@ -15,10 +15,10 @@ use crate::control::Control;
 use crate::control::ControlCode;
 use crate::letter::Letter;
 use crate::symbol::Symbol;
+use crate::tables::CODE_MAP_TABLE;
 use crate::tables::CONTROL_MAP_TABLE;
 use crate::tables::Found;
-use crate::tables::find_standard;
-use crate::tables::find_symbol;
+use crate::tables::find_point;
 
 // The code point of a code, where it has one.
 pub enum Character {
@@ -55,8 +55,8 @@ impl Letter {
     }
 }
 
-// The code point of a standard character's byte: ASCII's, but for eleven. A table of them would be copied to the stack for
-// each look into it.
+// The code point of a standard character's byte: ASCII's, but for eleven. The table has it too, and would be copied to
+// the stack for each look into it.
 pub(crate) fn standard_point(byte: u8) -> u32
     requires { ⌜ (32 ≤ byte) × (byte < 128) ⌝ }
     ensures { λ r. ⌜ r ≡ getD standard (byte - 32) 0 ⌝ }
@@ -111,8 +111,9 @@ impl Code {
         if c == 0 {
             return FromChar::NoSuchCharacter;
         }
-        match find_standard(c) {
-            Found::At(place) => FromChar::Made(Code::Letter(Letter::at(place as u8))),
+        let table = CODE_MAP_TABLE;
+        match find_point(&table, c) {
+            Found::At(entry) => FromChar::Made(Code::at(entry)),
             Found::Nothing => Code::symbol_from_char(c, channel),
         }
     }
@@ -122,11 +123,12 @@ impl Code {
         requires { ⌜ (c ≡ 0 → ⊥) ⌝ }
         ensures { λ r. ⌜ fromCharOutcome r ≡ symbolCode channel (position c symbols) ⌝ }
     {
-        match find_symbol(c) {
-            Found::At(place) => FromChar::Made(Code::Control(ControlCode {
+        let table = CONTROL_MAP_TABLE;
+        match find_point(&table, c) {
+            Found::At(entry) => FromChar::Made(Code::Control(ControlCode {
                 field: CodeField::Absent,
                 channel: channel,
-                control: Control::Symbol(Symbol::at(place as u8)),
+                control: Control::at(entry),
             })),
             Found::Nothing => FromChar::NoSuchCharacter,
         }

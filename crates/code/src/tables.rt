@@ -1,12 +1,9 @@
-// The tables, and where a character is found. An entry of the control table is one number: its bytes above, and its code
-// point in the low sixteen bits, 0 where it has none. A const array of numbers is checked in seconds, one of structs is
-// not.
+// The tables, and how an entry is found. An entry is one number: its byte or bytes above, and its code point in the low
+// sixteen bits, 0 where it has none. A const array of numbers is checked in seconds, one of structs is not.
 ghost use mathlib.Core.List.{map};
 ghost use mathlib.Core.Path.{_≡_};
-ghost use Prim.Native.Nat.{_≤_, _<_};
-ghost use Rattle.code.specs.Characters.{standard, symbols};
 ghost use Rattle.code.specs.Position.{position};
-ghost use Rattle.code.specs.Tables.{asAscii, foundAt, pointOf};
+ghost use Rattle.code.specs.Tables.{pointOf, foundAt};
 use crate::pair::Pair;
 
 // The pair of each row's white preamble, in row order 0 to 14: the style and the underline are added to the second byte.
@@ -26,6 +23,107 @@ pub(crate) const ROW_PREFIXES: [Pair; 15] = [
     Pair(0x13, 0x60),
     Pair(0x14, 0x40),
     Pair(0x14, 0x60),
+];
+
+// NUL, then the standard characters 0x20 to 0x7F in the order of their bytes.
+pub(crate) const CODE_MAP_TABLE: [u32; 97] = [
+    0x0000_0000, // NUL
+    0x0020_0020, // space
+    0x0021_0021, // !
+    0x0022_0022, // "
+    0x0023_0023, // #
+    0x0024_0024, // $
+    0x0025_0025, // %
+    0x0026_0026, // &
+    0x0027_2019, // ’
+    0x0028_0028, // (
+    0x0029_0029, // )
+    0x002A_00E1, // á
+    0x002B_002B, // +
+    0x002C_002C, // ,
+    0x002D_002D, // -
+    0x002E_002E, // .
+    0x002F_002F, // /
+    0x0030_0030, // 0
+    0x0031_0031, // 1
+    0x0032_0032, // 2
+    0x0033_0033, // 3
+    0x0034_0034, // 4
+    0x0035_0035, // 5
+    0x0036_0036, // 6
+    0x0037_0037, // 7
+    0x0038_0038, // 8
+    0x0039_0039, // 9
+    0x003A_003A, // :
+    0x003B_003B, // ;
+    0x003C_003C, // <
+    0x003D_003D, // =
+    0x003E_003E, // >
+    0x003F_003F, // ?
+    0x0040_0040, // @
+    0x0041_0041, // A
+    0x0042_0042, // B
+    0x0043_0043, // C
+    0x0044_0044, // D
+    0x0045_0045, // E
+    0x0046_0046, // F
+    0x0047_0047, // G
+    0x0048_0048, // H
+    0x0049_0049, // I
+    0x004A_004A, // J
+    0x004B_004B, // K
+    0x004C_004C, // L
+    0x004D_004D, // M
+    0x004E_004E, // N
+    0x004F_004F, // O
+    0x0050_0050, // P
+    0x0051_0051, // Q
+    0x0052_0052, // R
+    0x0053_0053, // S
+    0x0054_0054, // T
+    0x0055_0055, // U
+    0x0056_0056, // V
+    0x0057_0057, // W
+    0x0058_0058, // X
+    0x0059_0059, // Y
+    0x005A_005A, // Z
+    0x005B_005B, // [
+    0x005C_00E9, // é
+    0x005D_005D, // ]
+    0x005E_00ED, // í
+    0x005F_00F3, // ó
+    0x0060_00FA, // ú
+    0x0061_0061, // a
+    0x0062_0062, // b
+    0x0063_0063, // c
+    0x0064_0064, // d
+    0x0065_0065, // e
+    0x0066_0066, // f
+    0x0067_0067, // g
+    0x0068_0068, // h
+    0x0069_0069, // i
+    0x006A_006A, // j
+    0x006B_006B, // k
+    0x006C_006C, // l
+    0x006D_006D, // m
+    0x006E_006E, // n
+    0x006F_006F, // o
+    0x0070_0070, // p
+    0x0071_0071, // q
+    0x0072_0072, // r
+    0x0073_0073, // s
+    0x0074_0074, // t
+    0x0075_0075, // u
+    0x0076_0076, // v
+    0x0077_0077, // w
+    0x0078_0078, // x
+    0x0079_0079, // y
+    0x007A_007A, // z
+    0x007B_00E7, // ç
+    0x007C_00F7, // ÷
+    0x007D_00D1, // Ñ
+    0x007E_00F1, // ñ
+    0x007F_2588, // █
 ];
 
 // The control codes that are characters, commands and tabs, in the order of their bytes.
@@ -131,199 +229,10 @@ pub(crate) const CONTROL_MAP_TABLE: [u32; 99] = [
     0x1723_0000, // tab offset 3
 ];
 
-// Where each of the code points A0 to FF stands among the symbols, 80 where it is none: a symbol of these is not searched
-// for, and so many bytes are copied to the stack in a dozen instructions.
-pub(crate) const LATIN_PLACES: [u8; 96] = [
-    80,
-    23, // ¡
-    5, // ¢
-    6, // £
-    70, // ¤
-    69, // ¥
-    80,
-    80,
-    80,
-    27, // ©
-    80,
-    46, // «
-    80,
-    80,
-    0, // ®
-    80,
-    1, // °
-    80,
-    80,
-    80,
-    80,
-    80,
-    80,
-    80,
-    80,
-    80,
-    80,
-    47, // »
-    80,
-    2, // ½
-    80,
-    3, // ¿
-    32, // À
-    16, // Á
-    33, // Â
-    48, // Ã
-    64, // Ä
-    72, // Å
-    80,
-    34, // Ç
-    35, // È
-    17, // É
-    36, // Ê
-    37, // Ë
-    51, // Ì
-    50, // Í
-    39, // Î
-    40, // Ï
-    80,
-    80,
-    53, // Ò
-    18, // Ó
-    42, // Ô
-    55, // Õ
-    66, // Ö
-    80,
-    74, // Ø
-    43, // Ù
-    19, // Ú
-    45, // Û
-    20, // Ü
-    80,
-    80,
-    68, // ß
-    8, // à
-    80,
-    11, // â
-    49, // ã
-    65, // ä
-    73, // å
-    80,
-    80,
-    10, // è
-    80,
-    12, // ê
-    38, // ë
-    52, // ì
-    80,
-    13, // î
-    41, // ï
-    80,
-    80,
-    54, // ò
-    80,
-    14, // ô
-    56, // õ
-    67, // ö
-    80,
-    75, // ø
-    44, // ù
-    80,
-    15, // û
-    21, // ü
-    80,
-    80,
-    80,
-];
-
-// Where a character was found.
+// Where a search found what it looked for.
 pub(crate) enum Found {
     At(usize),
     Nothing,
-}
-
-// The place of a standard character. One of ASCII's stands at its own byte, or nowhere.
-pub(crate) fn find_standard(point: u32) -> Found
-    ensures { λ r. ⌜ r ≡ foundAt (position point standard) ⌝ }
-{
-    if point < 0x20 {
-        return Found::Nothing;
-    }
-    if 0x80 <= point {
-        return find_beyond_ascii(point);
-    }
-    if is_as_ascii(point as u8) {
-        Found::At((point - 0x20) as usize)
-    } else {
-        Found::Nothing
-    }
-}
-
-// Whether a byte's standard character is ASCII's, as all are but eleven.
-pub(crate) fn is_as_ascii(byte: u8) -> bool
-    requires { ⌜ (32 ≤ byte) × (byte < 128) ⌝ }
-    ensures { λ r. ⌜ r ≡ asAscii byte ⌝ }
-{
-    match byte {
-        0x27 => false, // ’
-        0x2A => false, // á
-        0x5C => false, // é
-        0x5E => false, // í
-        0x5F => false, // ó
-        0x60 => false, // ú
-        0x7B => false, // ç
-        0x7C => false, // ÷
-        0x7D => false, // Ñ
-        0x7E => false, // ñ
-        0x7F => false, // █
-        _ => true,
-    }
-}
-
-// The place of one of the eleven standard characters that are not ASCII's.
-pub(crate) fn find_beyond_ascii(point: u32) -> Found
-    requires { ⌜ 128 ≤ point ⌝ }
-    ensures { λ r. ⌜ r ≡ foundAt (position point standard) ⌝ }
-{
-    match point {
-        0x2019 => Found::At(0x07), // ’
-        0x00E1 => Found::At(0x0A), // á
-        0x00E9 => Found::At(0x3C), // é
-        0x00ED => Found::At(0x3E), // í
-        0x00F3 => Found::At(0x3F), // ó
-        0x00FA => Found::At(0x40), // ú
-        0x00E7 => Found::At(0x5B), // ç
-        0x00F7 => Found::At(0x5C), // ÷
-        0x00D1 => Found::At(0x5D), // Ñ
-        0x00F1 => Found::At(0x5E), // ñ
-        0x2588 => Found::At(0x5F), // █
-        _ => Found::Nothing,
-    }
-}
-
-// The place of a symbol.
-pub(crate) fn find_symbol(point: u32) -> Found
-    requires { ⌜ (point ≡ 0 → ⊥) ⌝ }
-    ensures { λ r. ⌜ r ≡ foundAt (position point symbols) ⌝ }
-{
-    if 0xA0 <= point {
-        if point < 0x100 {
-            return find_latin(point);
-        }
-    }
-    let table = CONTROL_MAP_TABLE;
-    find_point(&table, point)
-}
-
-// The place of a symbol whose code point is one of A0 to FF.
-pub(crate) fn find_latin(point: u32) -> Found
-    requires { ⌜ (160 ≤ point) × (point < 256) ⌝ }
-    ensures { λ r. ⌜ r ≡ foundAt (position point symbols) ⌝ }
-{
-    let table = LATIN_PLACES;
-    let at = (point - 0xA0) as usize;
-    let place = table[at];
-    if place < 80 {
-        Found::At(place as usize)
-    } else {
-        Found::Nothing
-    }
 }
 
 // The first entry that has this code point.

@@ -1,15 +1,16 @@
--- `code::code::Code::from_char` meets its contract: 0 is refused, a letter is the one at the place where the character was found, and the rest are symbols.
+-- `code::code::Code::from_char` meets its contract: 0 is refused, a letter stands one entry behind its place, and the rest is the symbols' search.
 -- Assumes nothing.
 use borrow.Author.Needs.{needs}
 use borrow.Author.Tests.{eq-eqb}
-use mathlib.Core.Option.{none}
-use mathlib.Core.Path.{sym, _∙_}
-use native.Mathlib.Omega.{arith}
-use Rattle.code.proofs.First.{found-none, found-some}
-use Rattle.code.proofs.Lookup.{by-standard, letter-inside}
+use mathlib.Core.List.{map}
+use mathlib.Core.Path.{ap, sym, _∙_}
+use Rattle.code.proofs.First.{first-inside, found-none, found-some}
+use Rattle.code.proofs.Lookup.{found-letter, found-no-letter}
 use Rattle.code.specs.Characters.{standard}
 use Rattle.code.specs.Code.{fromChar}
+use Rattle.code.specs.Outcome.{answer}
 use Rattle.code.specs.Position.{position}
+use Rattle.code.specs.Tables.{codeEntries, pointOf}
 use Rattle.code.proofs.code.Code.from_char.Statement.{statement}
 use Rattle.code.proofs.code.Code.from_char.Tie as tie
 
@@ -17,22 +18,21 @@ returns : tie.Need-returns
 unfolding fromChar
 returns c = simp (eq-eqb _ _ (c .if1 .taken))
 
-find-standard-requires : tie.Need-find-standard-requires
-find-standard-requires c κs = search needs
+slice-aggregate-find-point : tie.Need-slice-aggregate-find-point
+slice-aggregate-find-point c = search needs
 
-enum-known-place : tie.Need-enum-known-place
-enum-known-place c = search needs
+find-point-requires : tie.Need-find-point-requires
+find-point-requires c κs = search needs
 
-cast-at : tie.Need-cast-at
-cast-at c =
-    let x = c .before .before .before .before .before .args .c in
-    let place = found-some (position x standard) _ (sym (c .before .before .before .find-standard .ensures) ∙ c .before .place .given .1) in
-    omega (arith, letter-inside x _ place)
+enum-known-entry : tie.Need-enum-known-entry
+enum-known-entry c = search needs
 
 at-requires : tie.Need-at-requires
+unfolding codeEntries standard
 at-requires c κs =
-    let x = c .before .before .before .before .before .args .c in
-    letter-inside x _ (found-some (position x standard) _ (sym (c .before .before .before .find-standard .ensures) ∙ c .before .place .given .1))
+    let x = c .before .before .before .before .before .before .args .c in
+    first-inside x (map pointOf codeEntries) _
+    (found-some (position x (map pointOf codeEntries)) _ (sym (c .before .before .before .find-point .ensures) ∙ c .before .entry .given .1))
 
 enum-told : tie.Need-enum-told
 enum-told c = search needs
@@ -41,27 +41,27 @@ symbol-from-char-requires : tie.Need-symbol-from-char-requires
 symbol-from-char-requires c κs = search needs
 
 returns-2 : tie.Need-returns-2
+unfolding codeEntries standard
 returns-2 c =
-    let start = c .before .before .before .before .before .before in
-    let x = start .args .c in
-    let place = found-some (position x standard) _ (sym (c .before .before .before .before .find-standard .ensures) ∙ c .before .before .place .given .1) in
-    rw (c .at .ensures) (by-standard x (start .args .channel) _ (c .before .before .before .before .before .if1 .left) place)
+    let x = c .before .before .before .before .before .before .before .args .c in
+    let place = found-some (position x (map pointOf codeEntries)) _ (sym (c .before .before .before .before .find-point .ensures) ∙ c .before .before .entry .given .1) in
+    ap answer (c .at .ensures) ∙ found-letter x (c .before .before .before .before .before .before .before .args .channel) _ (c .before .before .before .before .before .before .if1 .left) place
 
 returns-3 : tie.Need-returns-3
+unfolding codeEntries standard
 returns-3 c =
-    let start = c .before .before .before .before .before in
-    let x = start .args .c in
-    let place = found-none (position x standard) (sym (c .before .before .before .find-standard .ensures) ∙ c .before .enum-told .given .1) in
-    c .symbol-from-char .ensures ∙ by-standard x (start .args .channel) none (c .before .before .before .before .if1 .left) place
+    let x = c .before .before .before .before .before .before .args .c in
+    let place = found-none (position x (map pointOf codeEntries)) (sym (c .before .before .before .find-point .ensures) ∙ c .before .enum-told .given .1) in
+    c .symbol-from-char .ensures ∙ found-no-letter x (c .before .before .before .before .before .before .args .channel) (c .before .before .before .before .before .if1 .left) place
 
 pub from-char-spec : {M : Type 1} → statement M
 from-char-spec =
     tie.close
     (tie.spec
     returns
-    find-standard-requires
-    enum-known-place
-    cast-at
+    slice-aggregate-find-point
+    find-point-requires
+    enum-known-entry
     at-requires
     enum-told
     symbol-from-char-requires
