@@ -8,3 +8,4 @@ pub mod Puts
 pub mod Reading
 pub mod Waiting
 pub mod WholePairs
+pub mod WorkedCase

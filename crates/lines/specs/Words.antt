@@ -65,19 +65,19 @@ wordFor word ch = word ++ (channelDigit ch ∷ [])
 
 abbrev pub eventWords : Cea608 → List ℕ
 eventWords (event.Text t) =
-    points "text " ++ (channelDigit (t .channel) ∷ space ∷ flagDigit (t .«needs_backspace») ∷ space ∷ (characterWord (t .char1) ++ (space ∷ characterWord (t .char2))))
-eventWords (event.NewMode ch m) = points "mode " ++ (channelDigit ch ∷ space ∷ modeWord m)
-eventWords (event.EraseDisplay ch) = points "erase " ++ (channelDigit ch ∷ [])
-eventWords (event.EraseNonDisplay ch) = points "erasehidden " ++ (channelDigit ch ∷ [])
-eventWords (event.CarriageReturn ch) = points "return " ++ (channelDigit ch ∷ [])
-eventWords (event.Backspace ch) = points "back " ++ (channelDigit ch ∷ [])
-eventWords (event.EndOfCaption ch) = points "end " ++ (channelDigit ch ∷ [])
-eventWords (event.TabOffset ch n) = points "tab " ++ (channelDigit ch ∷ space ∷ decimal n)
-eventWords (event.DeleteToEndOfRow ch) = points "delete " ++ (channelDigit ch ∷ [])
+    wordFor (points "text ") (t .channel) ++ (space ∷ flagDigit (t .«needs_backspace») ∷ space ∷ (characterWord (t .char1) ++ (space ∷ characterWord (t .char2))))
+eventWords (event.NewMode ch m) = wordFor (points "mode ") ch ++ (space ∷ modeWord m)
+eventWords (event.EraseDisplay ch) = wordFor (points "erase ") ch
+eventWords (event.EraseNonDisplay ch) = wordFor (points "erasehidden ") ch
+eventWords (event.CarriageReturn ch) = wordFor (points "return ") ch
+eventWords (event.Backspace ch) = wordFor (points "back ") ch
+eventWords (event.EndOfCaption ch) = wordFor (points "end ") ch
+eventWords (event.TabOffset ch n) = wordFor (points "tab ") ch ++ (space ∷ decimal n)
+eventWords (event.DeleteToEndOfRow ch) = wordFor (points "delete ") ch
 eventWords (event.Preamble ch p) =
-    points "row " ++ (channelDigit ch ∷ space ∷ (decimal (p .row) ++ (space ∷ (decimal (styleOf (p .ty)) ++ (space ∷ flagDigit (p .underline) ∷ [])))))
+    wordFor (points "row ") ch ++ (space ∷ (decimal (p .row) ++ (space ∷ (decimal (styleOf (p .ty)) ++ (space ∷ flagDigit (p .underline) ∷ [])))))
 eventWords (event.MidRowChange ch m) =
-    points "mid " ++ (channelDigit ch ∷ space ∷ (decimal (midRowNumber m) ++ (space ∷ flagDigit (isUnderlined m) ∷ [])))
+    wordFor (points "mid ") ch ++ (space ∷ (decimal (midRowNumber m) ++ (space ∷ flagDigit (isUnderlined m) ∷ [])))
 
 abbrev pub refusedWords : ℕ → List ℕ
 refusedWords n = points "refused " ++ decimal n

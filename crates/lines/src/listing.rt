@@ -188,10 +188,10 @@ impl Listing {
                 }
             }
             Half::Byte(_) => {
-                if 16_777_216 <= pairs {
-                    return self.refused_by(10, line);
+                if pairs < 16_777_216 {
+                    return self.refused_by(9, line);
                 }
-                self.refused_by(9, line)
+                self.refused_by(10, line)
             }
         }
     }

@@ -1,0 +1,29 @@
+-- 01's worked case of the listing, which antt computes from the definition.
+-- Assumes nothing.
+use mathlib.Core.List.{List, [], _∷_, _++_}
+use mathlib.Core.Path.{_≡_, refl}
+use Prim.Native.Nat.{ℕ}
+use lib.Count.{ones, onesIn}
+use Rattle.code.specs.Characters.{points, standard, symbols}
+use Rattle.code.specs.Read.{readPair}
+use Rattle.lines.specs.Listing.{listing}
+use Rattle.lines.specs.Words.{decimal}
+
+abbrev input : List ℕ
+input =
+    0x94 ∷ 0x25 ∷ 0x94 ∷ 0x25 ∷ 0x94 ∷ 0xAD ∷ 0x94 ∷ 0xAD ∷ 0x94 ∷ 0x70 ∷ 0xC8 ∷ 0xE9 ∷ 0x48 ∷ 0xE9 ∷ 0x80 ∷ 0x80
+    ∷ 0x91 ∷ 0x37 ∷ 0x92 ∷ 0x20 ∷ 0x9D ∷ 0x20 ∷ 0xC1 ∷ []
+
+abbrev ended : List (List ℕ) → List ℕ
+ended [] = []
+ended (l ∷ ls) = l ++ (0x0A ∷ ended ls)
+
+abbrev text : List ℕ
+text =
+    ended
+    (points "0 mode 1 roll2" ∷ points "2 return 1" ∷ points "4 row 1 14 8 0" ∷ points "5 text 1 0 0048 0069" ∷ points "6 refused 1"
+    ∷ points "8 text 1 0 266A -" ∷ points "9 text 1 1 00C1 -" ∷ points "10 mode 2 pop" ∷ points "11 refused 9" ∷ points "pairs 11 refused 2" ∷ [])
+
+pub worked-case : listing input ≡ text
+unfolding listing decimal ones onesIn standard symbols readPair
+worked-case = refl
