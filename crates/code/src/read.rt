@@ -2,7 +2,7 @@
 ghost use mathlib.Core.Path.{_≡_};
 ghost use Prim.Native.Nat.{_≤_, _<_, _%_};
 ghost use Rattle.code.specs.Read.{readPair, fromDataOutcome, single, channelOf, commandOf, fieldOf, withoutField, meaning, symbolIn};
-ghost use Rattle.code.specs.Tables.{codeAt, controlAt, firstRowAt, meaningOf, tabIn};
+ghost use Rattle.code.specs.Tables.{firstRowAt, meaningOf, tabIn};
 use crate::channel::Channel;
 use crate::channel::Field;
 use crate::code::Code;
@@ -68,18 +68,6 @@ impl Code {
             Code::Nul
         } else {
             Code::Unknown(byte)
-        }
-    }
-
-    // The code at an entry of the table of characters.
-    pub(crate) fn at(entry: usize) -> Code
-        requires { ⌜ entry < 97 ⌝ }
-        ensures { λ r. ⌜ r ≡ codeAt entry ⌝ }
-    {
-        if entry == 0 {
-            Code::Nul
-        } else {
-            Code::Letter(Letter::at((entry - 1) as u8))
         }
     }
 }
@@ -228,20 +216,6 @@ impl Control {
             underline: underline,
             ty: ty,
         }))
-    }
-
-    // The control at an entry of the control table.
-    pub(crate) fn at(entry: usize) -> Control
-        requires { ⌜ entry < 99 ⌝ }
-        ensures { λ r. ⌜ r ≡ controlAt entry ⌝ }
-    {
-        if entry < 80 {
-            Control::Symbol(Symbol::at(entry as u8))
-        } else if entry < 96 {
-            Control::Command(Command::at((entry - 80) as u8))
-        } else {
-            Control::Tab(Tab::at((entry - 96) as u8))
-        }
     }
 }
 
