@@ -1,12 +1,14 @@
 -- What two bytes of a control code say, as the code decides it: the preambles by their first bytes' rows, the rest by
--- their upper digits. One computation over all of them shows that it is what the text says.
+-- the first byte and then the second's upper digit. One computation over all of them shows that it is what the text
+-- says.
 -- Assumes nothing.
 use mathlib.Core.Bool.{Bool, true, false, cond, _&&_}
 use mathlib.Core.Option.{Option, none, some}
 use mathlib.Core.Path.{_≡_, refl}
-use Prim.Native.Nat.{ℕ, _+_, _*_, _/_, _%_, _≤_, _<_}
-use borrow.Author.Tests.{ltb-true}
+use Prim.Native.Nat.{ℕ, _+_, _/_, _%_, _≤_, _<_}
+use borrow.Author.Tests.{lt-leb, ltb-true}
 use lib.Dec.{eqb, leb, ltb, lit<, lit≤}
+use native.Mathlib.Omega.{arith}
 use Rattle.code.proofs.Agree.{agree, agree-from, agree-grid}
 use Rattle.code.specs.Control.{commandAt}
 use Rattle.code.specs.MidRow.{midRowAt}
@@ -28,23 +30,27 @@ inRow b row = some (control.Preamble (record { row = row; underline = underlined
 abbrev pub decidedRow : ℕ → ℕ → Option Control
 decidedRow p b = cond (ltb b 0x60) (inRow b (firstRowAt (p % 8))) (cond (eqb p 0x10) none (inRow b (firstRowAt (p % 8) + 1)))
 
--- by the upper three of the four digits
+-- by the first byte, then by the upper digit of the second
 abbrev pub decidedOther : ℕ → ℕ → Option Control
-decidedOther digits b =
-    cond (eqb digits 0x112) (some (control.MidRow (midRowAt (b % 16 / 2) (underlined b))))
-    (cond (eqb digits 0x113) (symbolIn Special b)
-    (cond (eqb digits 0x122) (symbolIn Spanish b)
-    (cond (eqb digits 0x123) (symbolIn French b)
-    (cond (eqb digits 0x132) (symbolIn Portuguese b)
-    (cond (eqb digits 0x133) (symbolIn German b)
-    (cond (eqb digits 0x142) (some (control.Command (commandAt (b % 16))))
-    (cond (eqb digits 0x172) (tabIn b) none)))))))
+decidedOther p b =
+    let digit = b / 16 in
+    cond (eqb p 0x11)
+    (cond (eqb digit 2) (some (control.MidRow (midRowAt (b % 16 / 2) (underlined b))))
+    (cond (eqb digit 3) (symbolIn Special b) none))
+    (cond (eqb p 0x12) (cond (eqb digit 2) (symbolIn Spanish b) (cond (eqb digit 3) (symbolIn French b) none))
+    (cond (eqb p 0x13) (cond (eqb digit 2) (symbolIn Portuguese b) (cond (eqb digit 3) (symbolIn German b) none))
+    (cond (eqb p 0x14) (cond (eqb digit 2) (some (control.Command (commandAt (b % 16)))) none)
+    (cond (eqb p 0x17) (cond (eqb digit 2) (tabIn b) none) none))))
 
 abbrev pub decided : ℕ → ℕ → Option Control
-decided p b = cond (leb 0x40 b) (decidedRow p b) (decidedOther (p * 16 + b / 16) b)
+decided p b = cond (leb 0x40 b) (decidedRow p b) (decidedOther p b)
 
 pub decided-is : (p b : ℕ) → 16 ≤ p → p < 24 → b < 128 → decided p b ≡ meaning p b
 decided-is p b from below less = agree-grid decided meaning 16 8 128 refl p b from below less
+
+-- below 40 there is no preamble
+pub other-told : (p b : ℕ) (r : Meaning) → 16 ≤ p → p < 24 → b < 64 → r ≡ meaningOf (decidedOther p b) → r ≡ meaningOf (meaning p b)
+other-told p b r from below less found = simp (← decided-is p b from below (omega arith), lt-leb _ _ less, found)
 
 -- 10 to 1F, by the upper digit
 pub in-row-one : (a : ℕ) → a < 128 → eqb (a / 16) 1 ≡ isCommand a

@@ -3,7 +3,7 @@ ghost use mathlib.Core.Path.{_≡_};
 ghost use Prim.Native.Nat.{_-_, _≤_, _<_};
 ghost use lib.ListN.{getD};
 ghost use Rattle.code.specs.Position.{position};
-ghost use Rattle.code.specs.Tables.{entryPoint};
+ghost use Rattle.code.specs.Tables.{codeAt, controlAt, entryPoint};
 ghost use Rattle.code.specs.Code.{charOf, controlChar, characterOutcome, fromChar, fromCharOutcome, symbolCode};
 ghost use Rattle.code.specs.Characters.{pointIn, standard, symbols};
 ghost use Rattle.code.specs.Letter.{letterPlace};
@@ -11,8 +11,10 @@ ghost use Rattle.code.specs.Symbol.{symbolPlace};
 use crate::channel::Channel;
 use crate::code::Code;
 use crate::control::CodeField;
+use crate::control::Command;
 use crate::control::Control;
 use crate::control::ControlCode;
+use crate::control::Tab;
 use crate::letter::Letter;
 use crate::symbol::Symbol;
 use crate::tables::CODE_MAP_TABLE;
@@ -133,6 +135,18 @@ impl Code {
             Found::Nothing => FromChar::NoSuchCharacter,
         }
     }
+
+    // The code at an entry of the table of characters.
+    pub(crate) fn at(entry: usize) -> Code
+        requires { ⌜ entry < 97 ⌝ }
+        ensures { λ r. ⌜ r ≡ codeAt entry ⌝ }
+    {
+        if entry == 0 {
+            Code::Nul
+        } else {
+            Code::Letter(Letter::at((entry - 1) as u8))
+        }
+    }
 }
 
 impl Control {
@@ -147,6 +161,20 @@ impl Control {
             Control::Tab(_) => Character::Absent,
             Control::Preamble(_) => Character::Absent,
             Control::Unknown(_, _) => Character::Absent,
+        }
+    }
+
+    // The control at an entry of the control table.
+    pub(crate) fn at(entry: usize) -> Control
+        requires { ⌜ entry < 99 ⌝ }
+        ensures { λ r. ⌜ r ≡ controlAt entry ⌝ }
+    {
+        if entry < 80 {
+            Control::Symbol(Symbol::at(entry as u8))
+        } else if entry < 96 {
+            Control::Command(Command::at((entry - 80) as u8))
+        } else {
+            Control::Tab(Tab::at((entry - 96) as u8))
         }
     }
 }

@@ -2,7 +2,7 @@
 ghost use mathlib.Core.Path.{_≡_};
 ghost use Prim.Native.Nat.{_≤_, _<_, _%_};
 ghost use Rattle.code.specs.Read.{readPair, fromDataOutcome, single, channelOf, commandOf, fieldOf, withoutField, meaning, symbolIn};
-ghost use Rattle.code.specs.Tables.{codeAt, controlAt, firstRowAt, meaningOf, tabIn};
+ghost use Rattle.code.specs.Tables.{firstRowAt, meaningOf, tabIn};
 use crate::channel::Channel;
 use crate::channel::Field;
 use crate::code::Code;
@@ -70,18 +70,6 @@ impl Code {
             Code::Unknown(byte)
         }
     }
-
-    // The code at an entry of the table of characters.
-    pub(crate) fn at(entry: usize) -> Code
-        requires { ⌜ entry < 97 ⌝ }
-        ensures { λ r. ⌜ r ≡ codeAt entry ⌝ }
-    {
-        if entry == 0 {
-            Code::Nul
-        } else {
-            Code::Letter(Letter::at((entry - 1) as u8))
-        }
-    }
 }
 
 impl ControlCode {
@@ -144,7 +132,7 @@ pub(crate) fn without_field(prefix: u8, second: u8) -> u8
 }
 
 impl Control {
-    // What two bytes say, channel and field aside: below 40 their upper three digits tell it, and no table is searched.
+    // What two bytes say, channel and field aside: below 40 the first byte and the second's upper digit tell it.
     pub(crate) fn parse(prefix: u8, second: u8) -> Meaning
         requires { ⌜ (16 ≤ prefix) × (prefix < 24) × (second < 128) ⌝ }
         ensures { λ r. ⌜ r ≡ meaningOf (meaning prefix second) ⌝ }
@@ -152,15 +140,30 @@ impl Control {
         if 0x40 <= second {
             return Control::parse_preamble(prefix, second);
         }
-        match (prefix as u32) * 16 + (second as u32) / 16 {
-            0x112 => Meaning::Of(Control::MidRow(MidRow::at(second % 16 / 2, second % 2 == 1))),
-            0x113 => Control::parse_symbol(SymbolRow::Special, second),
-            0x122 => Control::parse_symbol(SymbolRow::Spanish, second),
-            0x123 => Control::parse_symbol(SymbolRow::French, second),
-            0x132 => Control::parse_symbol(SymbolRow::Portuguese, second),
-            0x133 => Control::parse_symbol(SymbolRow::German, second),
-            0x142 => Meaning::Of(Control::Command(Command::at(second % 16))),
-            0x172 => Control::parse_tab(second),
+        match prefix {
+            0x11 => match second / 16 {
+                2 => Meaning::Of(Control::MidRow(MidRow::at(second % 16 / 2, second % 2 == 1))),
+                3 => Control::parse_symbol(SymbolRow::Special, second),
+                _ => Meaning::Nothing,
+            },
+            0x12 => match second / 16 {
+                2 => Control::parse_symbol(SymbolRow::Spanish, second),
+                3 => Control::parse_symbol(SymbolRow::French, second),
+                _ => Meaning::Nothing,
+            },
+            0x13 => match second / 16 {
+                2 => Control::parse_symbol(SymbolRow::Portuguese, second),
+                3 => Control::parse_symbol(SymbolRow::German, second),
+                _ => Meaning::Nothing,
+            },
+            0x14 => match second / 16 {
+                2 => Meaning::Of(Control::Command(Command::at(second % 16))),
+                _ => Meaning::Nothing,
+            },
+            0x17 => match second / 16 {
+                2 => Control::parse_tab(second),
+                _ => Meaning::Nothing,
+            },
             _ => Meaning::Nothing,
         }
     }
@@ -213,20 +216,6 @@ impl Control {
             underline: underline,
             ty: ty,
         }))
-    }
-
-    // The control at an entry of the control table.
-    pub(crate) fn at(entry: usize) -> Control
-        requires { ⌜ entry < 99 ⌝ }
-        ensures { λ r. ⌜ r ≡ controlAt entry ⌝ }
-    {
-        if entry < 80 {
-            Control::Symbol(Symbol::at(entry as u8))
-        } else if entry < 96 {
-            Control::Command(Command::at((entry - 80) as u8))
-        } else {
-            Control::Tab(Tab::at((entry - 96) as u8))
-        }
     }
 }
 
