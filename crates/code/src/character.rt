@@ -17,9 +17,9 @@ use crate::control::ControlCode;
 use crate::control::Tab;
 use crate::letter::Letter;
 use crate::symbol::Symbol;
-use crate::tables::CODE_MAP_TABLE;
-use crate::tables::CONTROL_MAP_TABLE;
 use crate::tables::Found;
+use crate::tables::code_table;
+use crate::tables::control_table;
 use crate::tables::find_point;
 
 // The code point of a code, where it has one.
@@ -84,7 +84,7 @@ impl Symbol {
     pub(crate) fn char(self) -> Character
         ensures { λ r. ⌜ characterOutcome r ≡ pointIn symbols (symbolPlace self) ⌝ }
     {
-        let table = CONTROL_MAP_TABLE;
+        let table = control_table();
         let entry = self.place() as usize;
         Character::from_entry(table[entry])
     }
@@ -113,7 +113,7 @@ impl Code {
         if c == 0 {
             return FromChar::NoSuchCharacter;
         }
-        let table = CODE_MAP_TABLE;
+        let table = code_table();
         match find_point(&table, c) {
             Found::At(entry) => FromChar::Made(Code::at(entry)),
             Found::Nothing => Code::symbol_from_char(c, channel),
@@ -125,7 +125,7 @@ impl Code {
         requires { ⌜ (c ≡ 0 → ⊥) ⌝ }
         ensures { λ r. ⌜ fromCharOutcome r ≡ symbolCode channel (position c symbols) ⌝ }
     {
-        let table = CONTROL_MAP_TABLE;
+        let table = control_table();
         match find_point(&table, c) {
             Found::At(entry) => FromChar::Made(Code::Control(ControlCode {
                 field: CodeField::Absent,

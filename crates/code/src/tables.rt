@@ -3,7 +3,7 @@
 ghost use mathlib.Core.List.{map};
 ghost use mathlib.Core.Path.{_≡_};
 ghost use Rattle.code.specs.Position.{position};
-ghost use Rattle.code.specs.Tables.{pointOf, foundAt};
+ghost use Rattle.code.specs.Tables.{codeEntries, controlEntries, pointOf, foundAt};
 use crate::pair::Pair;
 
 // The pair of each row's white preamble, in row order 0 to 14: the style and the underline are added to the second byte.
@@ -228,6 +228,20 @@ pub(crate) const CONTROL_MAP_TABLE: [u32; 99] = [
     0x1722_0000, // tab offset 2
     0x1723_0000, // tab offset 3
 ];
+
+// The table of characters: its bytes and code points are the text's.
+pub(crate) fn code_table() -> [u32; 97]
+    ensures { λ r. ⌜ r ≡ codeEntries ⌝ }
+{
+    CODE_MAP_TABLE
+}
+
+// The control table, likewise.
+pub(crate) fn control_table() -> [u32; 99]
+    ensures { λ r. ⌜ r ≡ controlEntries ⌝ }
+{
+    CONTROL_MAP_TABLE
+}
 
 // Where a search found what it looked for.
 pub(crate) enum Found {
