@@ -1,4 +1,4 @@
--- Of two tests that hold together each holds: one law for every crate.
+-- Where two tests hold together, each holds: one law for every crate.
 -- Assumes nothing.
 use mathlib.Core.Bool.{Bool, true, false, _&&_, true≢false}
 use mathlib.Core.Path.{_≡_, refl, sym}

@@ -55,7 +55,7 @@ preamble-plus row n inside less =
 pub prefix-small : (row : ℕ) → row < 15 → prefixAt row .1 ≤ 96
 prefix-small row inside = leb-true (prefixAt row .1) 96 (agree (λ (x : ℕ). leb (prefixAt x .1) 96) (λ (x : ℕ). true) 15 refl row inside)
 
--- the code points of the symbols' entries are those of the text
+-- the code points of the symbols' entries are the definition's
 pub symbol-point : (n : ℕ) → n < 80 → pointOf (getD controlEntries n 0) ≡ getD symbols n 0
 unfolding controlEntries symbols
 symbol-point n less = agree (λ (x : ℕ). pointOf (getD controlEntries x 0)) (λ (x : ℕ). getD symbols x 0) 80 refl n less

@@ -33,7 +33,7 @@ use Rattle.code.specs.declared.symbol.Symbol.{Symbol}
 use Rattle.code.specs.declared.symbol.SymbolRow.{SymbolRow}
 use Rattle.code.specs.declared.symbol.SymbolRow.the-variants.{Special, Spanish, French, Portuguese, German}
 
--- what is sent of a byte says command where the byte does
+-- field, channel and parity keep a byte in or out of 10 to 1F
 parity-says : (b : ℕ) → b < 128 → isCommand (stripped (withParity b)) ≡ isCommand b
 parity-says b less =
     let here : stripped b ≡ b = omega arith in
@@ -83,14 +83,14 @@ preamble-says p less =
     ap (λ (q : Pair). isCommand (q .0)) (sym (preamble-plus (p .row) n less (omega (arith, style-back (p .ty) .0, bit-small (p .underline)))))
     ∙ prefix-says (p .row) less
 
--- a pair whose first byte is 10 to 1F goes out as one
+-- a first byte of 10 to 1F is still one when sent
 command-small : (a : ℕ) → isCommand a ≡ true → a < 128
 command-small a e = omega (arith, leb-true a 0x1F (both-right (leb 0x10 a) (leb a 0x1F) e))
 
 goes-out : (f : CodeField) (ch : Channel) (p : Pair) → isCommand (p .0) ≡ true → isCommand (stripped (onLine f ch p .0)) ≡ true
 goes-out f ch p e = line-says f ch p (command-small (p .0) e) ∙ e
 
--- of an outcome: if it is an answer, its first byte says so
+-- of an outcome: if it is an answer, b says whether its first byte is 10 to 1F
 abbrev Says : Bool → Outcome (Pair × ℕ) → Type 0
 Says b (answer x) = isCommand (stripped (x .0 .0)) ≡ b
 Says b (refused n) = Unit

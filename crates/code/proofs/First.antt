@@ -1,4 +1,4 @@
--- The first entry of a table that has a number, told by what the entries have.
+-- The first entry of a table that has a given number, determined by the entries.
 -- Assumes nothing.
 use mathlib.Core.Path.{_≡_, refl, sym, ap}
 use mathlib.Core.List.{List, [], _∷_, map}
@@ -42,7 +42,7 @@ pub first-inside : (x : ℕ) (l : List ℕ) (i : ℕ) → position x l ≡ some 
 first-inside x [] i e = absurd (Option·none-ne-some i e)
 first-inside x (y ∷ ys) i e = inside-test (eqb x y) (length ys) i (position x ys) (λ j p. first-inside x ys j p) e
 
--- what a search reports tells the place
+-- what a search reports determines the place
 pub found-some : (o : Option ℕ) (i : ℕ) → foundAt o ≡ At i → o ≡ some i
 found-some none i e = let z : _≡_ {A = ℕ} 0 1 = cc in absurd (omega arith)
 found-some (some j) i e = cc

@@ -19,7 +19,7 @@ both : (a b : Bool) → T (a && b) → T a × T b
 both true b h = (tt, h)
 both false b h = absurd h
 
--- the test: each entry's bytes are below those of all entries behind it
+-- the test: each entry's bytes are below those of all entries after it
 abbrev allAbove : ℕ → List ℕ → Bool
 allAbove b [] = true
 allAbove b (y ∷ ys) = ltb b (bytesOf y) && allAbove b ys

@@ -13,6 +13,6 @@ pub past-keys : (n k : ℕ) → NoKey n k → k ≤ n
 past-keys n zero h = zero-le
 past-keys n (suc k) h = let below : k ≤ n = past-keys n k (h .0) in let other : n ≡ k → ⊥ = h .1 in omega arith
 
--- with keys 0 to k - 1 gone and n at most k, n is k
+-- with keys 0 to k - 1 ruled out and n at most k, n is k
 pub last-key : (n k : ℕ) → n < suc k → NoKey n k → n ≡ k
 last-key n k small h = let large : k ≤ n = past-keys n k h in omega arith

@@ -1,4 +1,4 @@
--- A part of an output, lent from a place on to the end: it is all from that place on, and comes back with nothing behind
+-- A part of an output, lent from a place on to the end: it is all from that place on, and comes back with nothing after
 -- it. One law for every crate.
 -- Assumes nothing.
 use mathlib.Core.List.{List, _++_, append-nil}

@@ -21,7 +21,7 @@ use Rattle.code.specs.declared.code.Code.the-variants as code
 use Rattle.code.specs.declared.control.CodeField.the-variants.{Absent}
 use Rattle.code.specs.declared.control.Control.{Control}
 
--- a character is found among the symbols alone, since the commands and tabs behind them have none
+-- a character is found among the symbols alone, since the commands and tabs after them have none
 none-in-zeros : (c n : ℕ) → (c ≡ 0 → ⊥) → position c (replicate n 0) ≡ none
 none-in-zeros c zero h = refl
 none-in-zeros c (suc n) h = rw (ne-eqb c 0 h) (ap later (none-in-zeros c n h))
@@ -34,7 +34,7 @@ symbol-place : (c : ℕ) → (c ≡ 0 → ⊥) → position c (map pointOf contr
 unfolding controlEntries symbols
 symbol-place c h = before-zeros c 19 symbols h
 
--- a standard character's entry is one behind its place, since NUL comes first
+-- a standard character's entry is one after its place, since NUL comes first
 letter-entry : (c : ℕ) → (c ≡ 0 → ⊥) → position c (map pointOf codeEntries) ≡ later (position c standard)
 unfolding codeEntries standard
 letter-entry c h = rw (ne-eqb c 0 h)

@@ -1,6 +1,5 @@
--- What two bytes of a control code say, as the code decides it: the preambles by their first bytes' rows, the rest by
--- the first byte and then the second's upper digit. One computation over all of them shows that it is what the text
--- says.
+-- What the two bytes of a control code mean, as the code decides it: a preamble by the rows of its first byte, the rest
+-- by the first byte and then the second's upper digit. One computation over all pairs shows that it is the definition.
 -- Assumes nothing.
 use mathlib.Core.Bool.{Bool, true, false, cond, _&&_}
 use mathlib.Core.Option.{Option, none, some}
@@ -60,7 +59,7 @@ in-row-one a less = agree (λ (x : ℕ). eqb (x / 16) 1) isCommand 128 refl a le
 pub in-row-two : (b : ℕ) → b < 256 → eqb (b / 16) 2 ≡ within 0x20 0x2F b
 in-row-two b less = agree (λ (x : ℕ). eqb (x / 16) 2) (within 0x20 0x2F) 256 refl b less
 
--- the channel bit goes by the remainder
+-- the remainder drops the channel bit
 pub without-channel : (a : ℕ) → 16 ≤ a → a < 32 → a % 8 + 16 ≡ withoutChannel a
 without-channel a from below = agree-from (λ (x : ℕ). x % 8 + 16) withoutChannel 16 16 refl a from below
 
@@ -85,6 +84,6 @@ pub parsed : (a b p : ℕ) (ch : Channel) (f : CodeField) (r : Meaning) → 16 �
 parsed a b p ch f r from below of-channel field prefix found =
     simp (found, prefix, field, of-channel, said-is, without-channel a from below)
 
--- a row that has a second half leaves room for it
+-- a first byte's second row is at most 14
 pub first-row-small : (n : ℕ) → n < 8 → firstRowAt n < 14
 first-row-small n less = ltb-true (firstRowAt n) 14 (agree (λ (x : ℕ). ltb (firstRowAt x) 14) (λ (x : ℕ). true) 8 refl n less)

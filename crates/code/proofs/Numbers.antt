@@ -140,7 +140,7 @@ letter-small l = omega (arith, letter-row-back (l .row) .0, column-back (l .colu
 pub symbol-small : (s : Symbol) → symbolPlace s < 80
 symbol-small s = omega (arith, symbol-row-back (s .row) .0, column-back (s .column) .0)
 
--- what a style's number tells of it
+-- what a style's number determines
 pub color-by-number : (t : PreambleType) → cond (ltb (styleOf t) 7) (colorAt (styleOf t)) White ≡ colorOfStyle t
 color-by-number (style.Color c) = rw (lt-ltb (colorNumber c) 7 (color-back c .0), color-back c .1)
 color-by-number style.WhiteItalics = refl

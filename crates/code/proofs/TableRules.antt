@@ -1,5 +1,5 @@
--- The rules of the tables, each once over its table: the bytes rise, so that no byte or pair stands twice; an entry's
--- bytes are read as what stands there, and what stands there is written as its bytes; a character stands in one place.
+-- The rules of the tables, each once over its table: the bytes rise, so that no byte or pair occurs twice; an entry's
+-- bytes are read as that entry, and the entry is written as its bytes; a character occurs once.
 -- Assumes nothing.
 use mathlib.Core.Option.{none, some}
 use mathlib.Core.Path.{_≡_, refl}

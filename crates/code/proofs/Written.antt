@@ -1,5 +1,5 @@
 -- What is known of a written pair, and all that the layers above know of one: both bytes have odd parity, the length is
--- the code's, and the first stripped byte tells whether the pair is read as a command or as two single codes.
+-- the code's, and the first stripped byte decides whether the pair is read as a command or as two single codes.
 -- Assumes nothing.
 use mathlib.Core.Bool.{Bool, true, false, cond, _&&_}
 use mathlib.Core.Path.{_≡_, refl, ap, subst, sym}
@@ -24,7 +24,7 @@ use Rattle.code.specs.declared.control.Control.{Control}
 use Rattle.code.specs.declared.control.Control.the-variants as control
 use Rattle.code.specs.declared.pair.Pair.{Pair}
 
--- a byte that may stand on the line
+-- a byte that may be sent
 pub record Sent (b : ℕ) : Type 0 where
   pub odd : isOdd b ≡ true
   pub small : b < 256

@@ -1,6 +1,6 @@
--- The characters. The standard and the special ones are 47 CFR 79.101's tables; the extended ones, and each character's
--- code point, are 01's, which follows the crate. Some look alike: 27 is ’ U+2019, 12 26 ‘ U+2018, 12 29 ' U+0027,
--- 12 2A — U+2014, 13 2E | U+007C, 13 37 │ U+2502.
+-- The characters: the standard and special ones from 47 CFR 79.101 (g), the extended ones from CTA-608 as 01 lists
+-- them. The code points are 01's, which follows the crate. Some look alike: 27 is ’ U+2019, 12 26 ‘ U+2018,
+-- 12 29 ' U+0027, 12 2A — U+2014, 13 2E | U+007C, 13 37 │ U+2502.
 use Prim.Native.Nat.{ℕ}
 use Prim.Native.Char.{code}
 use Prim.Native.String as text

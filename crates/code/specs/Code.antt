@@ -22,7 +22,7 @@ use Rattle.code.specs.declared.control.Control.the-variants as control
 use Rattle.code.specs.declared.symbol.SymbolRow.{SymbolRow}
 use Rattle.code.specs.declared.symbol.SymbolRow.the-variants.{Special, Spanish, French, Portuguese, German}
 
--- a control code has two bytes, also an `Unknown` of two that a set reads as text
+-- a control code has two bytes, even an `Unknown` of two that a receiver reads as text
 abbrev pub byteLen : Code → ℕ
 byteLen code.Nul = 1
 byteLen (code.Control c) = 2
@@ -82,7 +82,7 @@ abbrev pub letterCode : Option ℕ → Outcome Code → Outcome Code
 letterCode none other = other
 letterCode (some i) other = answer (code.Letter (letterAt i))
 
--- 0 is where there is no character, and no character itself
+-- 0 marks a place without a character, and is itself refused
 unfoldable pub fromChar : ℕ → Channel → Outcome Code
 fromChar c ch = cond (eqb c 0) (refused 5) (letterCode (position c standard) (symbolCode ch (position c symbols)))
 

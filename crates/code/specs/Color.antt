@@ -1,4 +1,4 @@
--- The colours, from 47 CFR 79.101's tables of mid-row and preamble codes, which have them in this order.
+-- The colours, in the order of the mid-row and preamble codes of 47 CFR 79.101 (h).
 use Prim.Native.Nat.{ℕ}
 use mathlib.Core.List.{List, [], _∷_}
 use lib.ListN.{getD}

@@ -1,4 +1,4 @@
--- The sixteen columns of a row of characters, and their numbers.
+-- The sixteen columns of a row of characters, and their numbers: the port's own words.
 use Prim.Native.Nat.{ℕ}
 use mathlib.Core.List.{List, [], _∷_}
 use lib.ListN.{getD}

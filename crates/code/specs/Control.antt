@@ -1,5 +1,5 @@
--- Control codes: the miscellaneous commands and the tab offsets in the order of 47 CFR 79.101's table. That a code may
--- name a field, and refusal 4, are from 01.
+-- Control codes: the miscellaneous commands and the tab offsets, in the order of 47 CFR 79.101 (i). The field that a
+-- code may name is from CTA-608 as 01 has it; refusal 4 is 01's.
 use Prim.Native.Nat.{ℕ}
 use mathlib.Core.List.{List, [], _∷_}
 use mathlib.Core.Option.{Option, none, some}

@@ -1,4 +1,4 @@
--- The places of the standard characters, from 47 CFR 79.101: 0x20 to 0x7F, six rows of sixteen.
+-- The places of the standard characters, from 47 CFR 79.101 (g): 0x20 to 0x7F, six rows of sixteen.
 use Prim.Native.Nat.{ℕ, _+_, _*_, _/_, _%_}
 use mathlib.Core.List.{List, [], _∷_}
 use lib.ListN.{getD}

@@ -1,4 +1,4 @@
--- Mid-row codes, from 47 CFR 79.101: seven colours, then italics, each with and without an underline.
+-- Mid-row codes, from 47 CFR 79.101 (h): seven colours, then italics, each with and without an underline.
 use Prim.Native.Nat.{ℕ}
 use mathlib.Core.Bool.{Bool, true, false, cond}
 use mathlib.Core.Option.{Option, none, some}

@@ -1,5 +1,5 @@
--- What a call gives: a value, or a refusal with its number in 01. Every answer of a public function that can refuse is
--- read as one of these, by a function of its own with a case for each of the answer's.
+-- What a call returns: a value, or a refusal with its number in 01. Each answer that can refuse has a function of its
+-- own to an outcome, with a case for each of the answer's.
 use Prim.Native.Nat.{ℕ}
 
 pub data Outcome (A : Type 0) : Type 0 where

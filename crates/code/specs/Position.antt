@@ -1,4 +1,4 @@
--- The first place, counted from 0, at which a number stands in a list.
+-- The first place of a number in a list, counted from 0: the port's own words.
 use Prim.Native.Nat.{ℕ, zero, suc}
 use mathlib.Core.Bool.{cond}
 use mathlib.Core.List.{List, [], _∷_}

@@ -1,5 +1,5 @@
--- Preamble address codes, from 47 CFR 79.101: fifteen rows, and sixteen styles with and without an underline. The rows
--- are counted from 0 as 01 has them, and the refusals 3 and 8 are 01's.
+-- Preamble address codes, from 47 CFR 79.101 (d) and (h): fifteen rows, and sixteen styles with and without an
+-- underline. That rows are counted from 0, and refusals 3 and 8, are 01's.
 use Prim.Native.Nat.{ℕ, _+_, _-_}
 use mathlib.Core.Bool.{Bool, true, false, cond}
 use mathlib.Core.List.{List, [], _∷_}

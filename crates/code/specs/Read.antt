@@ -1,5 +1,5 @@
--- What a pair means. 47 CFR 79.101 rules for the channel bit, the preamble, mid-row and miscellaneous codes and the
--- standard and special characters; 01 for the extended characters, the field that a code names, `Unknown`, and refusal 1.
+-- What a pair means. From 47 CFR 79.101 (g), (h), (i): characters, control codes, the channel bit. From CTA-608 as 01
+-- has it: extended characters and the field. From 01: `Unknown`, and refusal 1, which follows the crate against (j).
 use Prim.Native.Nat.{ℕ, _+_, _*_, _-_, _/_, _%_}
 use mathlib.Core.Bool.{Bool, cond, _&&_}
 use mathlib.Core.List.{List, [], _∷_}
@@ -39,7 +39,7 @@ underlined b = eqb (b % 2) 1
 abbrev pub isCommand : ℕ → Bool
 isCommand a = within 0x10 0x1F a
 
--- of such a byte: bit 0x08 clear means channel one, set means two; it is removed
+-- of such a byte: bit 0x08 clear is channel one, set is two; it is removed
 abbrev pub channelOf : ℕ → Channel
 channelOf a = cond (leb a 0x17) channelOne channelTwo
 
@@ -72,7 +72,7 @@ preambleAt b (some row) =
 abbrev pub symbolIn : SymbolRow → ℕ → Option Control
 symbolIn r b = some (control.Symbol (record { row = r; column = columnAt (b % 16) }))
 
--- what a first byte, 10 to 17 with 15 already read as 14 where it names a field, and a second byte say together
+-- what a first byte, 10 to 17 with 15 already read as 14 where it names a field, and a second byte mean together
 abbrev pub meaning : ℕ → ℕ → Option Control
 meaning p b =
     cond (eqb p 0x11 && within 0x20 0x2F b) (some (control.MidRow (midRowAt ((b - 0x20) / 2) (underlined b))))
@@ -84,7 +84,7 @@ meaning p b =
     (cond (eqb p 0x14 && within 0x20 0x2F b) (some (control.Command (commandAt (b - 0x20))))
     (cond (eqb p 0x17 && within 0x21 0x23 b) (some (control.Tab (tabAt (b - 0x21)))) (preambleAt b (rowOf p b)))))))))
 
--- what has no meaning keeps its two bytes as stripped, the channel bit among them
+-- what has no meaning keeps its two stripped bytes, with the channel bit
 abbrev pub orUnknown : ℕ → ℕ → Option Control → Control
 orUnknown a b none = control.Unknown a b
 orUnknown a b (some c) = c

@@ -1,5 +1,5 @@
--- The places of the characters that are control codes: the special characters, from 47 CFR 79.101, and the four rows of
--- extended characters, from 01.
+-- The places of the characters that are control codes: the special characters, from 47 CFR 79.101 (g), and the four
+-- rows of extended characters, from CTA-608 as 01 lists them.
 use Prim.Native.Nat.{ℕ, _+_, _*_, _/_, _%_}
 use mathlib.Core.List.{List, [], _∷_}
 use lib.ListN.{getD}

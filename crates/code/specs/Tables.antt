@@ -1,6 +1,6 @@
--- How the code lays its tables out, which no public promise mentions: an entry is one number, its bytes above and its
--- code point below. The laws of `proofs/Meaning` and `proofs/TableRules` tie it to the definitions of `Read`, `Write` and
--- `Characters`.
+-- The layout of the code's tables, in the port's own words; no public promise mentions it. An entry is one number, its
+-- bytes above the low sixteen bits and its code point in them. `proofs/Meaning` and `proofs/TableRules` tie it to the
+-- definitions of `Read`, `Write` and `Characters`.
 use Prim.Native.Nat.{ℕ, suc, _+_, _*_, _-_, _/_, _%_}
 use mathlib.Core.Bool.{cond}
 use mathlib.Core.List.{List, [], _∷_, _++_}
@@ -67,6 +67,6 @@ abbrev pub meaningOf : Option Control → Meaning
 meaningOf none = meant.Nothing
 meaningOf (some c) = meant.Of c
 
--- the tab of a second byte behind 17
+-- the tab of a second byte after 17
 abbrev pub tabIn : ℕ → Option Control
 tabIn b = cond (within 0x21 0x23 b) (some (control.Tab (tabAt (b - 0x21)))) none

@@ -1,5 +1,5 @@
--- The pair that a code is written into. 47 CFR 79.101 rules for the bytes of its control codes and characters and for
--- parity; 01 for extended characters, the field, `Unknown`, the lengths, and refusals 2 and 3.
+-- The pair that a code is written as. From 47 CFR 79.101 (g), (h), (i): the bytes of characters and control codes. From
+-- CTA-608 as 01 has it: extended characters and the field. From 01: `Unknown`, lengths, refusals 2 and 3.
 use Prim.Native.Nat.{ℕ, _+_, _*_, _/_, _%_}
 use mathlib.Core.Bool.{Bool, true, false, cond, _&&_, not}
 use mathlib.Core.List.{List, [], _∷_}
@@ -44,7 +44,7 @@ bit false = 0
 abbrev pub twoBytes : ℕ → Pair
 twoBytes n = pair (n / 256) (n % 256)
 
--- 11 20 on
+-- from 11 20 on
 abbrev pub midRowBytes : MidRow → Pair
 midRowBytes m = pair 0x11 (0x20 + 2 * midRowNumber m + bit (m .underline))
 
@@ -93,7 +93,7 @@ abbrev pub asCommand : CodeField → Channel → Outcome Pair → Outcome (Pair 
 asCommand f c (answer p) = answer (onLine f c p, 2)
 asCommand f c (refused n) = refused n
 
--- a single code stands first, with NUL behind it, and has length 1
+-- a single code comes first, with NUL after it, and has length 1
 abbrev pub asSingle : ℕ → Outcome (Pair × ℕ)
 asSingle b = answer (pair (withParity b) 0x80, 1)
 

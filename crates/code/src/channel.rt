@@ -1,9 +1,9 @@
-// The data channel and the field that a control code speaks of. Each is a kind of its own, so that a channel never
-// stands for a field.
+// The data channel and the field of a control code. Each has a type of its own, so that a channel is never taken for a
+// field.
 ghost use mathlib.Core.Path.{_≡_};
 ghost use Rattle.code.specs.Channel.{channelId, fieldId};
 
-// The data channel within a field. `true` is channel one, as in the source.
+// The data channel within a field. `true` is channel one, as in the crate.
 pub struct Channel(pub bool);
 
 impl Channel {
@@ -20,7 +20,7 @@ impl Channel {
     }
 }
 
-// The field of the picture. `true` is field one, as in the source.
+// The field of the picture. `true` is field one, as in the crate.
 pub struct Field(pub bool);
 
 impl Field {

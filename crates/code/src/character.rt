@@ -57,8 +57,8 @@ impl Letter {
     }
 }
 
-// The code point of a standard character's byte: ASCII's, but for eleven. The table has it too, and would be copied to
-// the stack for each look into it.
+// The code point of a standard character's byte: ASCII's, but for eleven. The table has it too, but would be copied to
+// the stack for each lookup.
 pub(crate) fn standard_point(byte: u8) -> u32
     requires { ⌜ (32 ≤ byte) × (byte < 128) ⌝ }
     ensures { λ r. ⌜ r ≡ getD standard (byte - 32) 0 ⌝ }
@@ -91,7 +91,7 @@ impl Symbol {
 }
 
 impl Code {
-    // The character that a set shows for the code, if any.
+    // The character that a receiver shows for the code, if any.
     pub fn char(self) -> Character
         ensures { λ r. ⌜ characterOutcome r ≡ charOf self ⌝ }
     {
@@ -150,7 +150,7 @@ impl Code {
 }
 
 impl Control {
-    // The character that a set shows for the control, if any.
+    // The character that a receiver shows for the control, if any.
     pub fn char(self) -> Character
         ensures { λ r. ⌜ characterOutcome r ≡ controlChar self ⌝ }
     {

@@ -7,11 +7,11 @@ use crate::letter::Letter;
 use crate::symbol::SymbolRow;
 
 pub enum Code {
-    // Padding: a set shows nothing.
+    // Padding: a receiver shows nothing.
     Nul,
-    // Two bytes that a set obeys, or shows as a special or extended character.
+    // Two bytes that a receiver obeys, or shows as a special or extended character.
     Control(ControlCode),
-    // One byte that a set shows.
+    // One byte that a receiver shows.
     Letter(Letter),
     // One byte that means nothing here. Reading gives 01 to 1F.
     Unknown(u8),

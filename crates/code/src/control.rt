@@ -1,4 +1,4 @@
-// Control codes: what the two bytes after their channel and field say.
+// Control codes: what their two bytes mean, channel and field aside.
 ghost use mathlib.Core.Path.{_≡_};
 ghost use Prim.Native.Nat.{_<_};
 ghost use Rattle.code.specs.Control.{commandAt, commandNumber, tabAt, tabNumber, tabOffset, tabOffsetOutcome};
@@ -14,13 +14,13 @@ use crate::symbol::Symbol;
 pub enum Command {
     // Pop-on: what follows is loaded out of sight.
     ResumeCaptionLoading,
-    // The character before the cursor goes.
+    // Deletes the character before the cursor.
     Backspace,
     // Reserved.
     AlarmOff,
     // Reserved.
     AlarmOn,
-    // The row goes from the cursor on.
+    // Deletes the row from the cursor on.
     DeleteToEndOfRow,
     // Roll-up captions of two rows.
     RollUp2,
@@ -28,21 +28,21 @@ pub enum Command {
     RollUp3,
     // Roll-up captions of four rows.
     RollUp4,
-    // What follows flashes; it takes a column.
+    // What follows flashes; the code takes a column.
     FlashOn,
-    // Paint-on: what follows shows as it comes.
+    // Paint-on: what follows is shown as received.
     ResumeDirectionCaptioning,
     // Text mode, from an empty screen.
     TextRestart,
-    // Text mode, where it was left.
+    // Text mode, from where it was left.
     ResumeTextDisplay,
-    // The captions on the screen go.
+    // Clears the captions on the screen.
     EraseDisplayedMemory,
     // A roll-up window scrolls by one row.
     CarriageReturn,
-    // The captions being loaded go.
+    // Clears the captions being loaded.
     EraseNonDisplayedMemory,
-    // Pop-on: what was loaded shows, and what was shown goes out of sight.
+    // Pop-on: swaps the loaded captions with those on the screen.
     EndOfCaption,
 }
 
@@ -59,7 +59,7 @@ pub enum Control {
     Command(Command),
     Tab(Tab),
     Preamble(PreambleAddressCode),
-    // Two bytes that have no meaning here, as stripped, the channel bit among them.
+    // Two stripped bytes that have no meaning here, with the channel bit.
     Unknown(u8, u8),
 }
 
@@ -204,7 +204,7 @@ impl ControlCode {
         self.field
     }
 
-    // What it says.
+    // What it means.
     pub fn code(self) -> Control
         ensures { λ r. ⌜ r ≡ controlIn self ⌝ }
     {

@@ -1,4 +1,4 @@
-// Mid-row codes: a change of colour, italics or underline within a row. A set shows one as a space.
+// Mid-row codes: a change of colour, italics or underline within a row. A receiver shows one as a space.
 ghost use mathlib.Core.Path.{_≡_};
 ghost use Prim.Native.Nat.{_<_};
 ghost use Rattle.code.specs.MidRow.{midRowAt, midRowNumber, colored, italic, colorIn, maybeColorOutcome, isItalic, isUnderlined};

@@ -2,7 +2,7 @@
 ghost use mathlib.Core.Path.{_≡_};
 ghost use Rattle.code.specs.Parity.{isOdd, stripped, withParity};
 
-// Whether a received byte may be believed: its count of ones is odd.
+// Whether a received byte passes: its count of ones is odd.
 pub fn check_odd_parity(byte: u8) -> bool
     ensures { λ r. ⌜ r ≡ isOdd byte ⌝ }
 {

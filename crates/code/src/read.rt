@@ -29,7 +29,7 @@ pub enum FromData {
     InvalidParity,
 }
 
-// What a control code says, where it says anything.
+// What a control code means, if anything.
 pub(crate) enum Meaning {
     Of(Control),
     Nothing,
@@ -132,7 +132,7 @@ pub(crate) fn without_field(prefix: u8, second: u8) -> u8
 }
 
 impl Control {
-    // What two bytes say, channel and field aside: below 40 the first byte and the second's upper digit tell it.
+    // What two bytes mean, channel and field aside: below 40 the first byte and the second's upper digit decide.
     pub(crate) fn parse(prefix: u8, second: u8) -> Meaning
         requires { ⌜ (16 ≤ prefix) × (prefix < 24) × (second < 128) ⌝ }
         ensures { λ r. ⌜ r ≡ meaningOf (meaning prefix second) ⌝ }
@@ -179,7 +179,7 @@ impl Control {
         }))
     }
 
-    // The tab of a second byte behind 17, or nothing.
+    // The tab of a second byte after 17, or nothing.
     pub(crate) fn parse_tab(second: u8) -> Meaning
         ensures { λ r. ⌜ r ≡ meaningOf (tabIn second) ⌝ }
     {

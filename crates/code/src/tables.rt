@@ -1,5 +1,5 @@
-// The tables, and how an entry is found. An entry is one number: its byte or bytes above, and its code point in the low
-// sixteen bits, 0 where it has none. A const array of numbers is checked in seconds, one of structs is not.
+// The tables, and how an entry is found. An entry is one number: its code point, or 0, in the low sixteen bits, and its
+// byte or bytes above them. A const array of numbers is checked in seconds, one of structs is not.
 ghost use mathlib.Core.List.{map};
 ghost use mathlib.Core.Path.{_≡_};
 ghost use Rattle.code.specs.Position.{position};
@@ -229,7 +229,7 @@ pub(crate) const CONTROL_MAP_TABLE: [u32; 99] = [
     0x1723_0000, // tab offset 3
 ];
 
-// The table of characters: its bytes and code points are the text's.
+// The table of characters: its bytes and code points are the definition's.
 pub(crate) fn code_table() -> [u32; 97]
     ensures { λ r. ⌜ r ≡ codeEntries ⌝ }
 {

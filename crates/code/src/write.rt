@@ -40,7 +40,7 @@ pub(crate) enum Bytes {
 }
 
 impl Code {
-    // The pair that the code is sent as: a single code with NUL behind it, a command by itself.
+    // The pair that the code is sent as: a single code with NUL after it, a command by itself.
     pub fn write(self) -> Written
         ensures { λ r. ⌜ writtenOutcome r ≡ writeCode self ⌝ }
     {
@@ -60,7 +60,7 @@ impl Code {
 }
 
 impl Code {
-    // Whether the code can be written, with no byte made.
+    // Whether the code can be written, without writing it.
     pub fn domain(self) -> Domain
         ensures { λ r. ⌜ domainOutcome r ≡ inDomain self ⌝ }
     {

@@ -1,4 +1,4 @@
--- The channel that an event is for.
+-- The channel that an event is for: the port's own words.
 use Rattle.code.specs.declared.channel.Channel.{Channel}
 use Rattle.event.specs.declared.event.Cea608.{Cea608}
 use Rattle.event.specs.declared.event.Cea608.the-variants as event

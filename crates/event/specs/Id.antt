@@ -1,4 +1,4 @@
--- The caption services, from 01: 1 to 4 is field one channel one, one two, two one, two two. Refusal 6 is 01's.
+-- The caption services and refusal 6, from 01: 1 and 2 are channels one and two of field one, 3 and 4 of field two.
 use Prim.Native.Nat.{ℕ}
 use mathlib.Core.Bool.{cond}
 use mathlib.Core.List.{[], _∷_}

@@ -1,4 +1,4 @@
--- The codes that say an event, for a field. Which they are is the crate's: a control code of that field and NUL, or the
+-- The codes that encode an event, for a field. They follow the crate: a control code of that field and NUL, or the
 -- codes of two characters, NUL for one that is absent. The refusals are 01's: 3 for a row above 14, 4 for a tab count
 -- other than 1, 2, 3, and 5 for a character that no code has, the first looked up before the second. A refusal gives no
 -- code at all.

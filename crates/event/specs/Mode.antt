@@ -1,6 +1,6 @@
--- The presentation modes and the commands that begin them, from 47 CFR 79.101: resume caption loading begins pop-on,
--- resume direct captioning paint-on, and the three roll-up commands windows of two, three and four rows. That end of
--- caption, which puts a set into pop-on too, is an event of its own and no new mode is the crate's.
+-- The presentation modes and the commands that begin them, from 47 CFR 79.101 (f): resume caption loading begins
+-- pop-on, resume direct captioning paint-on, and the three roll-up commands windows of two, three and four rows. End of
+-- caption puts a receiver into pop-on too; that it begins no mode here follows the crate.
 use Prim.Native.Nat.{ℕ}
 use mathlib.Core.Bool.{Bool, true, false}
 use mathlib.Core.Option.{Option, none, some}

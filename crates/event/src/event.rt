@@ -19,21 +19,21 @@ pub struct Text {
 pub enum Cea608 {
     // Characters.
     Text(Text),
-    // A presentation mode begins, or is said again.
+    // A presentation mode begins, or is repeated.
     NewMode(Channel, Mode),
-    // The captions on the screen go.
+    // The captions on the screen are cleared.
     EraseDisplay(Channel),
-    // The captions being loaded go.
+    // The captions being loaded are cleared.
     EraseNonDisplay(Channel),
     // A roll-up window scrolls by one row.
     CarriageReturn(Channel),
-    // The character before the cursor goes.
+    // The character before the cursor is deleted.
     Backspace(Channel),
-    // The captions that were loaded show.
+    // The loaded captions are shown.
     EndOfCaption(Channel),
-    // The cursor moves right by so many columns.
+    // The cursor moves right by this many columns.
     TabOffset(Channel, u8),
-    // The row goes from the cursor on.
+    // The row is deleted from the cursor on.
     DeleteToEndOfRow(Channel),
     // The cursor goes to a row, and what follows has its style.
     Preamble(Channel, PreambleAddressCode),

@@ -1,4 +1,4 @@
-// An event turned into the codes that say it.
+// An event turned into the codes that encode it.
 ghost use mathlib.Core.Path.{_≡_};
 ghost use Rattle.event.specs.IntoCode.{codesOf, intoCodeOutcome, textCodes, tabCodes, preambleCodes, alone, commandAlone};
 ghost use Rattle.event.specs.IntoCode.{characterCode, characterCodeOutcome};

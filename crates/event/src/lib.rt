@@ -1,5 +1,5 @@
-// What a caption decoder hears: the eleven events with their channel, the presentation modes and the caption services;
-// and an event turned back into the codes that say it.
+// What a caption decoder reports: the eleven events with their channel, the presentation modes and the caption
+// services; and an event turned back into codes.
 
 pub mod event;
 pub mod id;

@@ -1,4 +1,4 @@
-// The presentation modes: how captions come onto the screen.
+// The presentation modes: how captions appear on the screen.
 ghost use mathlib.Core.Path.{_≡_};
 ghost use Rattle.event.specs.Mode.{isRollup, rollupRows, rollupRowsOutcome, commandOf, modeOf, fromCommandOutcome};
 use code::Command;
@@ -6,9 +6,9 @@ use code::Command;
 pub enum Mode {
     // Captions are loaded out of sight and shown all at once.
     PopOn,
-    // Captions show as they come.
+    // Captions are shown as received.
     PaintOn,
-    // Captions come into the lowest of two rows, which move up at each carriage return.
+    // Captions are written into the bottom one of two rows, which scroll up at each carriage return.
     RollUp2,
     // The same with three rows.
     RollUp3,

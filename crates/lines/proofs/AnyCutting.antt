@@ -1,6 +1,6 @@
 -- Whatever the cutting of the input and whatever the room of the outputs, the pieces that are written are together the
--- definition's text: a state, with the input that is left, says the same before a piece and after it, but for what the
--- piece wrote. No room loses nothing.
+-- definition's text: what a state has still to write is the same before a piece and after it, but for what the piece
+-- wrote. An output without room loses nothing.
 -- Assumes nothing.
 use mathlib.Core.Bool.{Bool, true, false, cond, true≢false}
 use mathlib.Core.List.{List, [], _∷_, _++_, append-assoc, append-nil}
@@ -30,8 +30,8 @@ use Rattle.lines.specs.declared.listing.Listing.{Listing}
 use Rattle.receiver.specs.Receiver.{step}
 use Rattle.receiver.specs.declared.state.Cea608State.{Cea608State}
 
--- a state that calls leave of a fresh one. Where it has not ended, its counts are those of a stream within the limit, and
--- the last lines have a place behind what waits
+-- a state that calls leave of a fresh one. Where it has not ended, its counts are those of a stream within the limit,
+-- and there is room for the last lines after what waits
 pub record Open (l : Listing) : Type 0 where
   pub pairs : l .pairs ≤ mostPairs
   pub refused : l .refused ≤ l .pairs
@@ -42,7 +42,7 @@ pub record Open (l : Listing) : Type 0 where
 abbrev pub Sound : Listing → Type 0
 Sound l = (l .ended ≡ false) → Open l
 
--- an unended state says what waits, and what is listed of the rest
+-- a state that has not ended has still to write what waits, and the listing of the rest
 open-says : (l : Listing) (input : List ℕ) → l .ended ≡ false → saysYet l input ≡ pending (l .line) ++ listFrom (l .receiver) (l .pairs) (l .refused) (halfBytes (l .half) ++ input)
 open-says l input e = ap (λ (t : Bool). pending (l .line) ++ cond t [] (listFrom (l .receiver) (l .pairs) (l .refused) (halfBytes (l .half) ++ input))) e
 
@@ -58,7 +58,7 @@ counts : (o : Outcome (Option Cea608)) (q : ℕ) → q ≤ mostPairs → counted
 counts (answer e) q few = omega arith
 counts (refused n) q few = one-more q few
 
--- the last lines, put behind what waits, are what waits then
+-- the last lines, put after what waits, wait too
 module _ (l : Listing) (begun : Line) (good : Begun begun) (ahead : begun .at ≤ begun .len) (room : begun .len ≤ 42) where
   ended-says : (words : List ℕ) (q : ℕ) (input : List ℕ) → length (words ++ lastLine (l .pairs) q) ≤ 54 → saysYet (ending l begun words q) input ≡ pending begun ++ (words ++ lastLine (l .pairs) q)
   ended-says words q input short =
@@ -73,12 +73,12 @@ module _ (l : Listing) (begun : Line) (good : Begun begun) (ahead : begun .at �
       (subst (λ (k : ℕ). length (line (l .pairs) (refusedWords n) ++ lastLine (l .pairs) k) ≤ 54) (sym q) fits)
       ∙ ap (λ (k : ℕ). pending begun ++ (line (l .pairs) (refusedWords n) ++ lastLine (l .pairs) k)) q
 
--- at the limit one byte more is refused, whatever is behind it
+-- at the limit one byte more is refused, whatever comes after it
 at-the-limit : (s : Cea608State) (k q a : ℕ) (rest : List ℕ) → leb mostPairs k ≡ true → listFrom s k q (a ∷ rest) ≡ endsRefused 10 k q
 at-the-limit s k q a [] e = rw e refl
 at-the-limit s k q a (b ∷ rest) e = rw e refl
 
--- a byte, where nothing waits: what is said yet is the same
+-- a byte, where nothing waits: what is still to write is the same
 module _ (l : Listing) (on : l .ended ≡ false) (o : Open l) (quiet : pending (l .line) ≡ []) where
   limit-says : (h : Half) (a : ℕ) (rest : List ℕ) → leb mostPairs (l .pairs) ≡ true → listFrom (l .receiver) (l .pairs) (l .refused) (halfBytes h ++ (a ∷ rest)) ≡ endsRefused 10 (l .pairs) (l .refused)
   limit-says half.Absent a rest e = at-the-limit (l .receiver) (l .pairs) (l .refused) a rest e
@@ -153,7 +153,7 @@ absorbed-sound l o a = by-limit (leb mostPairs (l .pairs)) refl
     by-limit true e on = absurd (true≢false on)
     by-limit false e on = byte-open l o (l .half) a e
 
--- what is written, and what is said then
+-- what is written, and what is then still to write
 flush-says : (l : Listing) (room : ℕ) (input : List ℕ) → saysYet l input ≡ writes (l .line) room ++ saysYet (withLine l (unwritten (l .line) room)) input
 flush-says l room input =
     let rest = cond (l .ended) [] (listFrom (l .receiver) (l .pairs) (l .refused) (halfBytes (l .half) ++ input)) in
@@ -183,7 +183,7 @@ flushed-open l room o = by-room (ltb room (waiting (l .line))) refl
 all-written : (l : Line) (room : ℕ) → ltb room (waiting l) ≡ false → pending (unwritten l room) ≡ []
 all-written l room none = ap pending (empty-where-no-more l room none)
 
--- one piece: what was said is what the piece wrote, then what is said of the input that it did not take
+-- one piece: what was still to write is what the piece wrote, then what is still to write with the input not taken
 abbrev Goes : Listing → List ℕ → List ℕ → Piece → Type 0
 Goes l input more p = (saysYet l (input ++ more) ≡ p .text ++ saysYet (p .next) (drop (p .taken) input ++ more)) × Sound (p .next)
 
@@ -229,7 +229,7 @@ a-piece-says-the-same (a ∷ rest) l sound more room =
     a-piece-says-the-same rest (absorbed (withLine l (unwritten (l .line) room)) a)
     (absorbed-sound (withLine l (unwritten (l .line) room)) (flushed-open l room (sound on)) a) more (room - length (writes (l .line) room)))
 
--- the end of the input says nothing new
+-- the end of the input keeps what is still to write
 end-by : (l : Listing) → Open l → (h : Half) → pending (l .line) ++ listFrom (l .receiver) (l .pairs) (l .refused) (halfBytes h ++ []) ≡ saysYet (endBy l h) []
 end-by l o half.Absent =
     let short = last-line-short (l .pairs) (l .refused) (omega (arith, o .pairs)) (omega (arith, o .pairs, o .refused)) in
@@ -252,7 +252,7 @@ the-end-says-the-same l sound = by-ended (l .ended) refl
     by-ended true e = refl
     by-ended false e = open-says l [] e ∙ end-by l (sound e) (l .half)
 
--- what every run keeps: what it wrote, then what its state says yet of the input that is left, is the listing of the whole
+-- what every run keeps: what it wrote, then what its state has still to write, is the listing of the whole
 pub record Kept (bytes : List ℕ) (r : Run) : Type 0 where
   pub sound : Sound (r .listing)
   pub text : listing bytes ≡ r .text ++ saysYet (r .listing) (r .left)
@@ -328,7 +328,7 @@ end-kept bytes r finished k = record {
       finished);
 }
 
--- a listing that is done says nothing more
+-- a listing that is done has nothing more to write
 done-is-silent : (l : Listing) (input : List ℕ) → isDone l ≡ true → saysYet l input ≡ []
 done-is-silent l input done = by-line (hasMore (l .line)) refl (l .ended) refl done
   where

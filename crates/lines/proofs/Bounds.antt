@@ -1,4 +1,4 @@
--- How long lines are: none is longer than a line's memory, and the last ones fit behind any other.
+-- How long lines are: none is longer than a line's memory, and the last ones fit after any other.
 -- Assumes nothing.
 use mathlib.Core.Bool.{Bool, true, false, cond}
 use mathlib.Core.List.{List, [], _∷_, _++_}
@@ -64,7 +64,7 @@ mode-short mode.RollUp2 = omega arith
 mode-short mode.RollUp3 = omega arith
 mode-short mode.RollUp4 = omega arith
 
--- what is said of an event has at most 32 bytes
+-- the words of an event have at most 32 bytes
 pub event-short : (e : Cea608) → length (eventWords e) ≤ 32
 event-short (event.Text t) =
     omega (arith, length-append (characterWord (t .char1)) (0x20 ∷ characterWord (t .char2)), character-short (t .char1), character-short (t .char2))
@@ -97,7 +97,7 @@ pair-line-short k (refused n) less few = omega (arith, line-short k 16 (refusedW
 same-refusal : {n m : ℕ} → _≡_ {A = Outcome (Option Cea608)} (refused n) (refused m) → n ≡ m
 same-refusal e = cc
 
--- the refusals of a pair are by 1
+-- a pair is refused by 1 only
 by-one : (s : Cea608State) (p : Pair) (n : ℕ) → step s p .0 ≡ refused n → n < 100000000
 by-one s p n e = by-parity (isOddPair p) refl
   where
@@ -114,7 +114,7 @@ last-short : (p q : ℕ) → p < 100000000 → q < 100000000 → length (lastLin
 last-short p q lp lq =
     omega (arith, eight-digits p lp, eight-digits q lq, length-append (decimal p) (points " refused " ++ (decimal q ++ (0x0A ∷ []))), length-append (decimal q) (0x0A ∷ []))
 
--- the last lines together at most 54: they fit behind the line of a pair
+-- the last lines together at most 54: they fit after the line of a pair
 pub nine-short : length (refusedWords 9) ≤ 9
 unfolding decimal
 nine-short = omega arith

@@ -1,4 +1,4 @@
--- A flush, one byte at a time: the output after so many bytes, and that all that there is room for is a flush.
+-- A flush, one byte at a time: the output after each byte, and that writing all that there is room for is a flush.
 -- Assumes nothing.
 use mathlib.Core.Bool.{Bool, true, cond}
 use mathlib.Core.List.{List, _++_}
@@ -13,7 +13,7 @@ use Rattle.lines.proofs.Waiting.{byte-at, empty-where-no-more, how-many
 use Rattle.lines.specs.Line.{emptyLine, flushed, over, pending, unwritten, waiting, writes}
 use Rattle.lines.specs.declared.line.Line.{Line}
 
--- the output after so many bytes of the line
+-- the output after the first bytes of the line
 abbrev pub written : Line → List ℕ → ℕ → List ℕ
 written l output count = take count (pending l) ++ drop count output
 

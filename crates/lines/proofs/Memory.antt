@@ -27,7 +27,7 @@ pub from-length : (bytes : List ℕ) (at n : ℕ) → length (bytesFrom bytes at
 from-length bytes at zero = refl
 from-length bytes at (suc n) = ap suc (from-length bytes (at + 1) n)
 
--- a byte set behind those that wait is not among them
+-- a byte set after those that wait is not among them
 set-behind : (bytes : List ℕ) (at n i b : ℕ) → at + n ≤ i → bytesFrom (set bytes i b) at n ≡ bytesFrom bytes at n
 set-behind bytes at zero i b past = refl
 set-behind bytes at (suc n) i b past =
@@ -45,7 +45,7 @@ from-one-more bytes at (suc n) =
     ∙ ap (λ (l : List ℕ). getD bytes at 0 ∷ l)
     (from-one-more bytes (at + 1) n ∙ ap (λ (k : ℕ). bytesFrom bytes (at + 1) n ++ (getD bytes k 0 ∷ [])) there)
 
--- what waits in a line that nothing is cut off from
+-- what waits in a line that is not cut off
 pub waiting-is : (l : Line) → l .len ≤ 96 → waiting l ≡ l .len - l .at
 waiting-is l inside = by-length (leb 96 (l .len)) refl
   where
@@ -71,7 +71,7 @@ further-waits l b begun less ahead =
     (ap (λ (k : ℕ). getD (set (l .bytes) (l .len) b) k 0) there ∙ getD-set-same (l .bytes) (l .len) b 0 (omega (arith, less, begun .places)))
     ∙ ap (λ (k : ℕ). bytesFrom (l .bytes) (l .at) k ++ (b ∷ [])) (sym (waiting-is l (omega (arith, less))))
 
--- all bytes said by a line with places for them wait behind what waits
+-- bytes put into a line with places for them wait after what waits
 pub record Holds (l next : Line) (bs : List ℕ) : Type 0 where
   pub begun : Begun next
   pub waits : pending next ≡ pending l ++ bs

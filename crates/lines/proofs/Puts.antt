@@ -1,5 +1,5 @@
 -- Bytes put into memory one after the other: a chain of puts is one put of all their bytes, and where there are places for
--- them they stand from the first place on, with what was in front and behind as it was.
+-- them they stand from the first place on, with what was before and after them as it was.
 -- Assumes nothing.
 use mathlib.Core.Bool.{Bool, true, false, cond}
 use mathlib.Core.List.{List, [], _∷_, _++_, append-assoc}
@@ -15,7 +15,7 @@ use Rattle.lines.specs.Put.{Placed, putAll, putOne}
 use Rattle.lines.specs.Words.{decimal}
 
 infixr 5 _then_
--- a place and a memory with these bytes put from the place on are that place and memory
+-- the place and the memory once these bytes are put from a place on
 pub data Put (s : Placed) (bytes : List ℕ) (next : Placed) : Type 0 where
   is : next ≡ putAll s bytes → Put s bytes next
 
@@ -42,7 +42,7 @@ digit s same e = is (e ∙ ap (putOne s) same)
 pub number : (s : Placed) {d n : ℕ} {next : Placed} → d ≡ n → next ≡ putAll s (decimal d) → Put s (decimal n) next
 number s same e = is (e ∙ ap (λ (k : ℕ). putAll s (decimal k)) same)
 
--- no byte makes the memory longer
+-- the memory stays as long as it was
 pub puts-length : (bs : List ℕ) (s : Placed) → length (putAll s bs .1) ≡ length (s .1)
 puts-length [] s = refl
 puts-length (b ∷ bs) s = puts-length bs (putOne s b) ∙ by-place (leb (length (s .1)) (s .0))

@@ -1,4 +1,4 @@
--- The reading of a piece, one turn at a time. What it comes to from a state, with so much taken and written, is the same
+-- The reading of a piece, one turn at a time. What it comes to from a state, with some taken and written, is the same
 -- before a turn and after it; where it stops, it is what the flush left.
 -- Assumes nothing.
 use mathlib.Core.Bool.{Bool, true, false, cond}
@@ -29,7 +29,7 @@ begun input l output =
     ap (λ (room : ℕ). onceRead 0 0 output (pieceOf l input room)) whole
     ∙ ap₂ {C = Read} (λ (n m : ℕ). (n, m, p .next, over (p .text) output)) taken written
 
--- what a turn says, and what is left of the listing and of the output then
+-- what a turn writes, and the listing and the output after it
 abbrev said : Listing → List ℕ → ℕ → List ℕ
 said l output written = writes (l .line) (length output - written)
 
@@ -47,7 +47,7 @@ in-two-parts front rest w t =
     ∙ ap (λ (d : List ℕ). front ++ d) (append-assoc w t (drop (length t) (drop (length w) rest)))
     ∙ sym (append-assoc front w (t ++ drop (length t) (drop (length w) rest)))
 
--- a piece with text in front of it
+-- a piece with text before its own
 abbrev prefixed : List ℕ → Piece → Piece
 prefixed w p = record { taken = p .taken; text = w ++ p .text; next = p .next }
 

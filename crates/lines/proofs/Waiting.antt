@@ -12,7 +12,7 @@ use Rattle.lines.proofs.Memory.{from-length, written-and-waiting}
 use Rattle.lines.specs.Line.{bytesFrom, emptyLine, hasMore, pending, unwritten, waiting, writes}
 use Rattle.lines.specs.declared.line.Line.{Line}
 
--- the place behind the last byte that waits: the length, but never behind the 96th
+-- the place after the last byte that waits: the length, but at most 96
 abbrev lastPlace : ℕ → ℕ
 lastPlace len = cond (leb 96 len) 96 len
 
@@ -23,7 +23,7 @@ last-place-by len false e = (omega (arith, leb-false 96 len e), omega arith, λ 
 last-place : (len : ℕ) → (lastPlace len ≤ 96) × (lastPlace len ≤ len) × ((n : ℕ) → n < 96 → n < len → n < lastPlace len)
 last-place len = last-place-by len (leb 96 len) refl
 
--- no more wait than are in front of either
+-- no more bytes wait than there are before either
 pub behind-96 : (l : Line) (count : ℕ) → 96 ≤ l .at + count → waiting l ≤ count
 behind-96 l count h = omega (arith, last-place (l .len) .0)
 
@@ -37,7 +37,7 @@ pub more-before-both : (l : Line) (count : ℕ) → l .at + count < 96 → l .at
 more-before-both l count small less =
     omega (arith, last-place (l .len) .2 (l .at + count) small less)
 
--- two tests of an order that hold together
+-- two comparisons that agree
 same-test : (a b c d : ℕ) → (a < b → c < d) → (b ≤ a → d ≤ c) → ltb a b ≡ ltb c d
 same-test a b c d if-less if-not = same-by (ltb a b) refl
   where

@@ -1,5 +1,5 @@
--- The listing of a stream that comes in pieces of any size and goes into outputs of any size: what is not taken is offered
--- again, and what was not written waits.
+-- The listing of a stream that comes in pieces of any size and goes into outputs of any size: what is not taken is
+-- offered again, and what was not written waits. The port's own words.
 use Prim.Native.Nat.{ℕ}
 use mathlib.Core.Bool.{true, cond}
 use mathlib.Core.List.{List, [], _∷_, _++_}
@@ -18,7 +18,7 @@ abbrev pub halfBytes : Half → List ℕ
 halfBytes half.Absent = []
 halfBytes (half.Byte a) = a ∷ []
 
--- what a state says yet of the input that is left
+-- what a state has still to write, with the input that is left
 abbrev pub saysYet : Listing → List ℕ → List ℕ
 saysYet l input =
     pending (l .line) ++ cond (l .ended) [] (listFrom (l .receiver) (l .pairs) (l .refused) (halfBytes (l .half) ++ input))

@@ -1,4 +1,4 @@
--- A line that waits to be written: the bytes of a fixed piece of memory, 96 of them, between two places.
+-- A line that waits to be written: the bytes of a memory of 96, between two places. The port's own words.
 use Prim.Native.Nat.{ℕ, zero, suc, _+_, _-_}
 use mathlib.Core.Bool.{Bool, cond}
 use mathlib.Core.List.{List, [], _∷_, _++_}
@@ -11,7 +11,7 @@ use Rattle.lines.specs.declared.line.Line.{Line}
 abbrev pub emptyLine : Line
 emptyLine = record { bytes = replicate 96 0; at = 0; len = 0 }
 
--- the line with these bytes behind what it has
+-- the line with these bytes after what it has
 abbrev pub says : Line → List ℕ → Line
 says l bs = record { bytes = putAll (l .len, l .bytes) bs .1; at = l .at; len = putAll (l .len, l .bytes) bs .0 }
 
@@ -30,14 +30,14 @@ pending l = bytesFrom (l .bytes) (l .at) (waiting l)
 abbrev pub hasMore : Line → Bool
 hasMore l = ltb 0 (waiting l)
 
--- what is written where there is so much room, and what is left of the line then: a line of which nothing is left is empty
+-- what is written into the room that there is, and what is left of the line: one of which nothing is left is empty
 abbrev pub writes : Line → ℕ → List ℕ
 writes l room = take room (pending l)
 
 abbrev pub unwritten : Line → ℕ → Line
 unwritten l room = cond (ltb room (waiting l)) (record { bytes = l .bytes; at = l .at + room; len = l .len }) emptyLine
 
--- bytes in front of what was there
+-- an output that begins with these bytes
 abbrev pub over : List ℕ → List ℕ → List ℕ
 over bytes output = bytes ++ drop (length bytes) output
 

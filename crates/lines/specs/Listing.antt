@@ -1,5 +1,5 @@
 -- The listing: raw bytes to text, one equation, from 01's section "The listing". 10 before 9: at the limit of pairs one
--- byte more is refused 10, and what is behind it is not read.
+-- byte more is refused 10, and what comes after it is not read.
 use Prim.Native.Nat.{ℕ, _+_}
 use mathlib.Core.Bool.{cond}
 use mathlib.Core.List.{List, [], _∷_, _++_}
@@ -20,11 +20,11 @@ abbrev pub refusals : Outcome (Option Cea608) → ℕ
 refusals (answer e) = 0
 refusals (refused n) = 1
 
--- a refusal of the stream by this number, which is the last thing that it says
+-- a refusal of the stream by this number, which ends the listing
 abbrev pub endsRefused : ℕ → ℕ → ℕ → List ℕ
 endsRefused n k q = line k (refusedWords n) ++ lastLine k (q + 1)
 
--- what is listed from a state on, with so many pairs read and so many refused
+-- what is listed from a state on, with k pairs read and q refused
 abbrev pub listFrom : Cea608State → ℕ → ℕ → List ℕ → List ℕ
 listFrom s k q [] = lastLine k q
 listFrom s k q (a ∷ []) = cond (leb mostPairs k) (endsRefused 10 k q) (endsRefused 9 k q)

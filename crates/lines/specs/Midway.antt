@@ -1,5 +1,5 @@
--- A reading on its way, with so much of the input taken and so much of the output written already: what it comes to, and
--- what it is to be further on in the same reading.
+-- A reading on its way, with part of the input taken and part of the output written: what it comes to, and what holds
+-- further on in the same reading. The port's own words.
 use Prim.Native.Nat.{ℕ, _+_, _-_, _≤_}
 use mathlib.Core.Bool.{false}
 use mathlib.Core.List.{List, _++_}

@@ -1,5 +1,5 @@
--- The listing in pieces: what a state says yet, what a byte does to it, and how much input is taken and text written where
--- there is so much of either. Any state may be handed in; one that no call leaves is listed as it stands.
+-- The listing in pieces, in the port's own words: what a byte and the end do to a state, and how much is taken and
+-- written. Any state may be handed in; one that no call leaves is listed as it stands.
 use Prim.Native.Nat.{ℕ, _+_, _-_}
 use mathlib.Core.Bool.{Bool, true, false, cond}
 use mathlib.Core.List.{List, [], _∷_, _++_}
@@ -27,7 +27,7 @@ betweenPairs s k q = record { receiver = s; half = half.Absent; pairs = k; refus
 abbrev pub freshListing : Listing
 freshListing = betweenPairs fresh 0 0
 
--- one refusal more. More than one behind the limit of pairs there cannot be.
+-- one refusal more; there is at most one beyond the limit of pairs
 abbrev pub oneMore : ℕ → ℕ
 oneMore q = cond (leb q mostPairs) (q + 1) q
 
@@ -35,7 +35,7 @@ abbrev pub counted : Outcome (Option Cea608) → ℕ → ℕ
 counted (answer e) q = q
 counted (refused n) q = oneMore q
 
--- the stream ends with these words of its last pair, and the last line
+-- the stream ends with these words and the last line
 abbrev pub ending : Listing → Line → List ℕ → ℕ → Listing
 ending l begun words q = record {
   receiver = l .receiver;
@@ -78,7 +78,7 @@ withByte l (half.Byte x) a = afterPair l (step (l .receiver) (pair x a))
 unfoldable pub absorbed : Listing → ℕ → Listing
 absorbed l a = cond (leb mostPairs (l .pairs)) (refusedBy 10 l emptyLine) (withByte l (l .half) a)
 
--- the end of the input, behind what waits
+-- the end of the input, after what waits
 abbrev pub endBy : Listing → Half → Listing
 endBy l half.Absent = ending l (l .line) [] (l .refused)
 endBy l (half.Byte x) = refusedBy (cond (leb mostPairs (l .pairs)) 10 9) l (l .line)

@@ -1,4 +1,4 @@
--- Bytes put into a piece of memory from a place on, as long as there is a place for them.
+-- Bytes put into a piece of memory from a place on, as long as there is a place for them: the port's own words.
 use Prim.Native.Nat.{ℕ, _+_}
 use mathlib.Core.Bool.{cond}
 use mathlib.Core.List.{List, [], _∷_}

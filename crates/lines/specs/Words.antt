@@ -82,7 +82,7 @@ eventWords (event.MidRowChange ch m) =
 abbrev pub refusedWords : ℕ → List ℕ
 refusedWords n = points "refused " ++ decimal n
 
--- a line: the number of the pair, what there is to say, and the end of the line
+-- a line: the number of the pair, its words, and the end of the line
 abbrev pub line : ℕ → List ℕ → List ℕ
 line k words = decimal k ++ (space ∷ (words ++ (0x0A ∷ [])))
 

@@ -16,7 +16,7 @@ pub(crate) struct Flushed {
 }
 
 impl Line {
-    // A line that says nothing.
+    // An empty line.
     pub(crate) fn new() -> Line
         ensures { λ r. ⌜ r ≡ emptyLine ⌝ }
     {

@@ -36,7 +36,7 @@ pub struct Progress {
     pub listing: Listing,
 }
 
-// One refusal more. More than one behind the limit of pairs there cannot be.
+// One refusal more. There is at most one beyond the limit of pairs.
 pub(crate) fn one_more(refused: u32) -> u32
     ensures { λ r. ⌜ r ≡ oneMore refused ⌝ }
 {
@@ -79,7 +79,7 @@ impl Listing {
         between_pairs(Cea608State::new(), 0, 0)
     }
 
-    // The stream ends with a refusal by this number, behind what the line has.
+    // The stream ends with a refusal by this number, after what the line has.
     pub(crate) fn refused_by(self, refusal: u32, line: Line) -> Listing
         ensures { λ r. ⌜ r ≡ refusedBy refusal self line ⌝ }
     {
@@ -157,7 +157,7 @@ impl Listing {
         }
     }
 
-    // The end of the input: the last lines wait behind what waits already.
+    // The end of the input: the last lines wait after what waits already.
     pub fn end(self) -> Listing
         ensures { λ r. ⌜ r ≡ endedListing self ⌝ }
     {
@@ -227,7 +227,7 @@ impl Listing {
     }
 
     // Takes whole pairs and writes their lines straight into the output, as long as there is room for any line. Nothing
-    // waits before it or behind it.
+    // waits before it or after it.
     pub(crate) fn read_pairs(self, input: &[u8], from: usize, out: &mut [u8], at: usize) -> Progress
         requires { ⌜ Between (now input) from self (now out) at ⌝ }
         ensures { λ r. ⌜ Further (now (input .entry)) from self (now (out .entry)) at r (now (out .exit)) ⌝ }

@@ -1,4 +1,4 @@
-// Bytes put into lent memory from a place on, as long as there is a place for them. Each returns the place behind.
+// Bytes put into lent memory from a place on, as long as there is a place for them. Each returns the place after them.
 ghost use mathlib.Core.Path.{_≡_};
 ghost use Prim.Native.Nat.{_%_, _<_};
 ghost use Rattle.lines.specs.Put.{putAll, putOne};
@@ -26,7 +26,7 @@ pub(crate) fn put_word(out: &mut [u8], at: usize, word: &[u8]) -> usize
     next
 }
 
-// The digit at a place of ten that the number reaches.
+// The digit at a power of ten, where the number reaches it.
 pub(crate) fn put_place(out: &mut [u8], at: usize, place: u32, number: u32) -> usize
     requires { ⌜ 0 < place ⌝ }
     ensures { λ r. ⌜ (r, now (out .exit)) ≡ putAll (at, now (out .entry)) (atPlace place number) ⌝ }

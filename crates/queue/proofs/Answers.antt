@@ -1,6 +1,6 @@
--- What every answer of the ring is known by, whatever state was handed in: a popped pair has odd parity and is a command
--- where its first stripped byte says so, a count is at most 65, a pop of a queue that is not empty makes progress, and
--- twice as many pops as there are codes empty it.
+-- What is known of every answer of the ring, whatever state was handed in: a popped pair has odd parity and is a
+-- command where its first stripped byte is 10 to 1F, a count is at most 65, a pop of a queue that is not empty makes
+-- progress, and twice as many pops as there are codes empty it.
 -- Assumes nothing.
 use mathlib.Core.Bool.{Bool, true, false, cond}
 use mathlib.Core.List.{[]}

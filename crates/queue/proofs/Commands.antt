@@ -1,6 +1,6 @@
--- Which popped pairs a set reads as commands: those whose first code taken is one that is sent as a command, so every
--- control code but `Unknown`, and never a letter, 20 80 or 80 80. `Unknown` says what its own bytes say, and two cases
--- show it: one before a letter can make a command, and one of two bytes can make text.
+-- Which popped pairs a receiver reads as commands: those whose first code taken is one that is sent as a command, so
+-- every control code but `Unknown`, and never a letter, 20 80 or 80 80. An `Unknown` is read by its own bytes. Two
+-- cases show it: one before a letter can make a command, and one of two bytes can make text.
 -- Assumes nothing.
 use mathlib.Core.Bool.{Bool, true, false, cond, not, true≢false}
 use mathlib.Core.List.{List, [], _∷_, _++_}
@@ -92,7 +92,7 @@ popped-is-read v f = popped-command v f ∙ popped-says-command v f
 pub control-makes-a-command : (v : Queued) → Fit v → (c : ControlCode) (rest : List Code) → isCommandControl (c .control) ≡ true → pop v .took ≡ code.Control c ∷ rest → isCommand (stripped (pop v .pair .0)) ≡ true
 control-makes-a-command v f c rest e taken = popped-says-command v f ∙ ap sendsCommand taken ∙ e
 
--- a letter in front, or 20 80 or 80 80 with nothing taken, makes none
+-- a letter first, or 20 80 or 80 80 with nothing taken, makes none
 pub letter-makes-no-command : (v : Queued) → Fit v → (l : Letter) (rest : List Code) → pop v .took ≡ code.Letter l ∷ rest → isCommand (stripped (pop v .pair .0)) ≡ false
 letter-makes-no-command v f l rest taken = popped-says-command v f ∙ ap sendsCommand taken
 
@@ -108,7 +108,7 @@ letter-A = code.Letter (letterAt 0x21)
 abbrev letter-B : Code
 letter-B = code.Letter (letterAt 0x22)
 
--- `Unknown` 14 before A: 94 C1, which a set reads as a preamble, row 13 in white, underlined
+-- `Unknown` 14 before A: 94 C1, which a receiver reads as a preamble, row 13 in white, underlined
 abbrev row-13-underlined : Code
 row-13-underlined = code.Control (record {
   field = Absent;
@@ -122,7 +122,7 @@ pub two-singles-make-a-command :
 unfolding ones onesIn writeCode inDomain admit pairOf pop readPair
 two-singles-make-a-command = (refl, refl)
 
--- a two-byte `Unknown` 41 42: C1 C2, which a set reads as A and B
+-- a two-byte `Unknown` 41 42: C1 C2, which a receiver reads as A and B
 abbrev unknown-41-42 : Code
 unknown-41-42 = code.Control (record { field = Absent; channel = channelOne; control = control.Unknown 0x41 0x42 })
 

@@ -1,5 +1,5 @@
--- A push and a pop leave the list of a well-formed queue one: never above 64 waiting, each waiting code one
--- that may wait, and no held code or one that may be held.
+-- A push and a pop keep the list well formed: never above 64 waiting, each waiting code one that may wait, and no held
+-- code or one that may be held.
 -- Assumes nothing.
 use mathlib.Core.Bool.{Bool, true, false, _&&_, not}
 use mathlib.Core.List.{List, [], _∷_, _++_}

@@ -33,7 +33,7 @@ unchanged-without-reset (c ∷ cs) q e none =
     ap (λ (r : Reply × Queue). ringAfter cs (r .1)) (call-refused c q e (both-left (not (isReset c)) (noReset cs) none))
     ∙ unchanged-without-reset cs q e (both-right (not (isReset c)) (noReset cs) none)
 
--- and are refused, each of them, whatever comes behind
+-- and are refused, each of them, whatever comes after
 refused-before : (cs later : List Call) (q : Queue) → wellFormed q ≡ false → noReset cs ≡ true → ringReplies (cs ++ later) q ≡ map refusal cs ++ ringReplies later q
 refused-before [] later q e none = refl
 refused-before (c ∷ cs) later q e none =
@@ -56,7 +56,7 @@ as-the-empty-list-from-reset before later q e none =
     refused-until-reset before later q e none
     ∙ ap (λ (l : List Reply). map refusal before ++ (toReset ∷ l)) (ring-answers-as-the-list later freshRing fresh-good)
 
--- of any state at all: behind a reset the state, and its history, are what they would be from a fresh queue on
+-- of any state at all: after a reset the state, and its history, are what they would be from a fresh queue on
 pub fresh-from-reset : (before later : List Call) (q : Queue) → ringAfter (before ++ (resetting ∷ later)) q ≡ ringAfter later freshRing
 fresh-from-reset [] later q = refl
 fresh-from-reset (c ∷ before) later q = fresh-from-reset before later (onRing c q .1)
@@ -65,7 +65,7 @@ pub history-from-reset : (before later : List Call) (h : History) → afterAll (
 history-from-reset [] later h = refl
 history-from-reset (c ∷ before) later h = history-from-reset before later (after c h)
 
--- so first in first out holds behind a reset, whatever state was handed in
+-- so first in first out holds after a reset, whatever state was handed in
 pub first-in-first-out-from-reset : (before later : List Call) (h : History) → InOrder (afterAll (before ++ (resetting ∷ later)) h)
 first-in-first-out-from-reset before later h =
     subst InOrder (sym (history-from-reset before later h)) (first-in-first-out later)

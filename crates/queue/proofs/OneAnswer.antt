@@ -1,11 +1,11 @@
--- No second answer can meet a promise: the outcome of an answer and the record beside it tell the whole of what a call
--- returns, since the answer is found again from its outcome.
+-- The answer is unique: the outcome of a call, with the record beside it, is injective, since the answer can be
+-- recovered from it.
 -- Assumes nothing.
 use mathlib.Core.Bool.{cond}
 use mathlib.Core.Path.{_≡_, refl, ap, ap₂, sym, _∙_}
 use Prim.Native.Nat.{ℕ}
 use lib.Dec.{eqb}
-use Rattle.code.proofs.OneAnswer.{Told}
+use Rattle.code.proofs.OneAnswer.{Injective}
 use Rattle.code.specs.Outcome.{Outcome, answer, refused}
 use Rattle.code.specs.declared.pair.Pair.{Pair}
 use Rattle.queue.specs.Ring.{countAnswerOutcome, countOutcome, popAnswerOutcome, popOutcome, pushAnswerOutcome, pushOutcome}
@@ -20,11 +20,11 @@ use Rattle.queue.specs.declared.push.PushAnswer.the-variants as push-ans
 use Rattle.queue.specs.declared.push.Pushed.{Pushed}
 use Rattle.queue.specs.declared.ring.Queue.{Queue}
 
--- what stands beside an outcome
+-- the record beside an outcome
 abbrev beside : {A : Type 0} → A × Queue → Queue
 beside r = r .1
 
--- a push's answer, found again from its outcome
+-- a push's answer, recovered from its outcome
 abbrev pushAnswerOf : Outcome Unit → PushAnswer
 pushAnswerOf (answer u) = push-answer.Accepted
 pushAnswerOf (refused n) =
@@ -38,13 +38,13 @@ push-answer-found push-answer.NoSuchRow = refl
 push-answer-found push-answer.Full = refl
 push-answer-found push-answer.IllFormed = refl
 
-pub push-answer-told : Told pushAnswerOutcome
-push-answer-told a b e = sym (push-answer-found a) ∙ ap pushAnswerOf e ∙ push-answer-found b
+pub push-answer-injective : Injective pushAnswerOutcome
+push-answer-injective a b e = sym (push-answer-found a) ∙ ap pushAnswerOf e ∙ push-answer-found b
 
-pub push-told : Told pushOutcome
-push-told r s e =
+pub push-injective : Injective pushOutcome
+push-injective r s e =
     ap₂ {C = Pushed} (λ (a : PushAnswer) (q : Queue). record { answer = a; queue = q })
-    (push-answer-told (r .answer) (s .answer) (ap (λ (w : Outcome Unit × Queue). w .0) e)) (ap beside e)
+    (push-answer-injective (r .answer) (s .answer) (ap (λ (w : Outcome Unit × Queue). w .0) e)) (ap beside e)
 
 -- a pop's; the number of a refusal is not looked at, since a pop is refused by 12 only
 abbrev popAnswerOf : Outcome Pair → PopAnswer
@@ -55,13 +55,13 @@ pop-answer-found : (a : PopAnswer) → popAnswerOf (popAnswerOutcome a) ≡ a
 pop-answer-found (pop-answer.Sent p) = refl
 pop-answer-found pop-answer.IllFormed = refl
 
-pub pop-answer-told : Told popAnswerOutcome
-pop-answer-told a b e = sym (pop-answer-found a) ∙ ap popAnswerOf e ∙ pop-answer-found b
+pub pop-answer-injective : Injective popAnswerOutcome
+pop-answer-injective a b e = sym (pop-answer-found a) ∙ ap popAnswerOf e ∙ pop-answer-found b
 
-pub pop-told : Told popOutcome
-pop-told r s e =
+pub pop-injective : Injective popOutcome
+pop-injective r s e =
     ap₂ {C = Popped} (λ (a : PopAnswer) (q : Queue). record { answer = a; queue = q })
-    (pop-answer-told (r .answer) (s .answer) (ap (λ (w : Outcome Pair × Queue). w .0) e)) (ap beside e)
+    (pop-answer-injective (r .answer) (s .answer) (ap (λ (w : Outcome Pair × Queue). w .0) e)) (ap beside e)
 
 -- a count's
 abbrev countAnswerOf : Outcome ℕ → CountAnswer
@@ -72,10 +72,10 @@ count-answer-found : (a : CountAnswer) → countAnswerOf (countAnswerOutcome a) 
 count-answer-found (count-answer.Codes n) = refl
 count-answer-found count-answer.IllFormed = refl
 
-pub count-answer-told : Told countAnswerOutcome
-count-answer-told a b e = sym (count-answer-found a) ∙ ap countAnswerOf e ∙ count-answer-found b
+pub count-answer-injective : Injective countAnswerOutcome
+count-answer-injective a b e = sym (count-answer-found a) ∙ ap countAnswerOf e ∙ count-answer-found b
 
-pub count-told : Told countOutcome
-count-told r s e =
+pub count-injective : Injective countOutcome
+count-injective r s e =
     ap₂ {C = Counted} (λ (a : CountAnswer) (q : Queue). record { answer = a; queue = q })
-    (count-answer-told (r .answer) (s .answer) (ap (λ (w : Outcome ℕ × Queue). w .0) e)) (ap beside e)
+    (count-answer-injective (r .answer) (s .answer) (ap (λ (w : Outcome ℕ × Queue). w .0) e)) (ap beside e)

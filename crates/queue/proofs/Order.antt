@@ -1,4 +1,4 @@
--- First in first out, of one call on the list: a pop takes from the front of what is inside, a push puts behind it.
+-- First in first out, of one call on the list: a pop takes from the front of what is inside, a push adds at its end.
 -- Assumes nothing.
 use mathlib.Core.Bool.{Bool, true, false, not}
 use mathlib.Core.List.{List, [], _∷_, _++_, append-assoc, append-nil}

@@ -1,5 +1,5 @@
--- The ring's list: how it begins, that places are counted over the seam, what it is after a store behind it and after
--- places in front were freed.
+-- The ring's list: how it begins, that places wrap around, and what it is once a code is stored at its end or places at
+-- its front are freed.
 -- Assumes nothing.
 use mathlib.Core.List.{List, [], _∷_, _++_}
 use mathlib.Core.Path.{_≡_, refl, ap, ap₂, sym, _∙_}
@@ -45,7 +45,7 @@ over-the-seam slots at (suc n) =
     ∙ ap (λ (k : ℕ). codesFrom slots k n) next
     ∙ over-the-seam slots (at + 1) n)
 
--- k places freed in front: the first k codes are gone
+-- k places freed at the front: the first k codes are gone
 pub freed-in-front : (slots : List Slot) (at n k : ℕ) → k ≤ n → codesFrom slots (at + k) (n - k) ≡ drop k (codesFrom slots at n)
 freed-in-front slots at n zero h =
     let here : at + 0 ≡ at = omega arith in
@@ -57,7 +57,7 @@ freed-in-front slots at (suc n) (suc k) h =
     let left : suc n - suc k ≡ n - k = omega arith in
     ap₂ (codesFrom slots) on left ∙ freed-in-front slots (at + 1) n k (omega arith)
 
--- one code more is the one behind
+-- one code more is the next one
 one-more : (slots : List Slot) (at n : ℕ) → codesFrom slots at (suc n) ≡ codesFrom slots at n ++ (codeAt slots (at + n) ∷ [])
 one-more slots at zero =
     let here : at ≡ at + 0 = omega arith in
@@ -77,7 +77,7 @@ untouched slots at (suc n) k s far less =
     (ap (λ (p : ℕ). codesFrom (set slots (p % 64) s) (at + 1) n) on
     ∙ untouched slots (at + 1) n (k - 1) s (omega arith) (omega arith))
 
--- a code stored at the place behind the last is the last
+-- a code stored at the place after the last is the last
 pub stored-behind : (slots : List Slot) (at n : ℕ) (c : Code) → length slots ≡ 64 → n < 64 → codesFrom (set slots ((at + n) % 64) (slot c)) at (n + 1) ≡ codesFrom slots at n ++ (c ∷ [])
 stored-behind slots at n c size less =
     ap (codesFrom (set slots ((at + n) % 64) (slot c)) at) (add-one n)

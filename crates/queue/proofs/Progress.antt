@@ -1,5 +1,5 @@
--- Every pop of a queue that is not empty makes progress: twice the waiting codes and the held one is a number that
--- falls. So a queue of n codes is empty after at most 2 n pops.
+-- Every pop of a queue that is not empty makes progress: twice the waiting codes plus the held one falls. So a queue of
+-- n codes is empty after at most 2 n pops.
 -- Assumes nothing.
 use mathlib.Core.Bool.{Bool, true, false}
 use mathlib.Core.List.{List, [], _∷_}

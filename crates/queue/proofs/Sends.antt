@@ -1,4 +1,4 @@
--- What a pop sends is what it took: the pair is told by the codes taken and the command then held. With first in first
+-- What a pop sends is what it took: the pair is given by the codes taken and the command then held. With first in first
 -- out, no code is sent that was not accepted, none is left out, and the bytes are in order.
 -- Assumes nothing.
 use mathlib.Core.Bool.{Bool, true, false}

@@ -1,6 +1,6 @@
--- 01's pairs tried by hand, those of the queue that are not marked P: H i !, and the 65th code with NUL after it, with every
--- reply. antt computes each from the definitions of the list; the ring answers the same. Those marked P are the sender's
--- `TriedByHand`, one list of all layers.
+-- 01's pairs tried by hand, those of the queue that are not marked P: H i !, and the 65th code with NUL after it, with
+-- every reply. antt computes each from the definitions of the list; the ring answers the same. Those marked P are in
+-- `TriedByHand` of `agreement`, one list of all layers.
 -- Assumes nothing.
 use mathlib.Core.List.{List, [], _∷_, _++_}
 use mathlib.Core.Path.{_≡_, refl, _∙_}
@@ -29,7 +29,7 @@ letter-i = code.Letter (letterAt 0x49)
 abbrev exclamation : Code
 exclamation = code.Letter (letterAt 0x01)
 
--- what the replies to each sequence of calls are to be, those to the pushes among them
+-- the replies due to each sequence of calls, those to the pushes included
 abbrev Tried : (List Call → List Reply) → Type 0
 Tried replies =
     (replies (pushing letter-H ∷ pushing letter-i ∷ pushing exclamation ∷ popping ∷ popping ∷ []) ≡ accepted ∷ accepted ∷ accepted ∷ toPop (answer (pair 0xC8 0xE9)) ∷ toPop (answer (pair 0xA1 0x80)) ∷ [])
@@ -39,7 +39,7 @@ pub tried-by-hand : Tried (λ (cs : List Call). listReplies cs empty)
 unfolding ones onesIn writeCode inDomain admit pairOf pop
 tried-by-hand = (refl, refl)
 
--- what replies alike passes alike, and from a fresh queue on the ring replies as the list does
+-- equal replies pass alike, and from a fresh queue on the ring replies as the list does
 tried-as : (f g : List Call → List Reply) → ((cs : List Call) → g cs ≡ f cs) → Tried f → Tried g
 tried-as f g alike told = (alike _ ∙ told .0, alike _ ∙ told .1)
 

@@ -1,4 +1,4 @@
--- What a pop does by the first two codes alone: what waits behind them matters neither to the pair, nor to the places
+-- What a pop does by the first two codes alone: what waits after them matters neither to the pair, nor to the places
 -- freed, nor to what is held.
 -- Assumes nothing.
 use mathlib.Core.Bool.{Bool, true, false}

@@ -1,4 +1,4 @@
--- What a well-formed state is known by, clause by clause, and how the waiting codes are tested one by one.
+-- A well-formed state, clause by clause, and how the waiting codes are tested one by one.
 -- Assumes nothing.
 use mathlib.Core.Bool.{Bool, true, false, _&&_}
 use mathlib.Core.List.{List}
@@ -55,7 +55,7 @@ pub one-held : (h : Option Code) → length (heldCodes h) ≤ 1
 one-held none = lit≤ tt
 one-held (some c) = lit≤ tt
 
--- what is stored found room
+-- a code is stored only where there is room
 room : (nul : Bool) (o : Outcome Unit) (full : Bool) → admitBy nul o full ≡ answer true → full ≡ false
 room true o full e = let z : _≡_ {A = ℕ} 0 1 = cc in absurd (omega arith)
 room false (answer u) true e = let z : _≡_ {A = ℕ} 0 1 = cc in absurd (omega arith)
@@ -66,7 +66,7 @@ pub stored-has-room : (c : Code) (n : ℕ) → admit c n ≡ answer true → n <
 unfolding admit
 stored-has-room c n e = leb-false 64 n (room (isNul c) (inDomain c) (isFull n) e)
 
--- the parts of an admission, each found by itself
+-- an admission from its parts
 pub admission-is : (c : Code) (n : ℕ) {nul full : Bool} {d : Outcome Unit} {o : Outcome Bool} → o ≡ admitBy nul d full → nul ≡ isNul c → d ≡ inDomain c → full ≡ isFull n → o ≡ admit c n
 unfolding admit
 admission-is c n {full = full} e nul-is domain-is full-is =

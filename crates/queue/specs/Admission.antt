@@ -1,5 +1,5 @@
--- What the admission that `push` finds first says, in the words of `Queue.admit`: stored, accepted and not stored, or
--- refused 2, 3 or 7.
+-- The admission that `push` finds first, as an outcome of `Queue.admit`: stored, accepted and not stored, or refused 2,
+-- 3 or 7. The port's own words.
 use mathlib.Core.Bool.{Bool, true, false}
 use Rattle.code.specs.Outcome.{Outcome, answer, refused}
 use Rattle.queue.specs.declared.push.Admission.{Admission}

@@ -1,5 +1,5 @@
 -- The states that the laws are about, from 01's "Well formed": the list of a well-formed queue, and a well-formed ring;
--- and what of a call on the ring the list's call is compared with.
+-- and the part of a ring's call that is compared with the list's.
 use mathlib.Core.Bool.{true}
 use mathlib.Core.Path.{_≡_}
 use Prim.Native.Nat.{_≤_}

@@ -7,7 +7,7 @@ use Rattle.queue.specs.Queue.{Queued, heldCodes, pop}
 abbrev pub work : Queued → ℕ
 work v = 2 * length (v .waiting) + length (heldCodes (v .held))
 
--- what is left after so many pops
+-- what is left after n pops
 abbrev pub popTimes : ℕ → Queued → Queued
 popTimes zero v = v
 popTimes (suc n) v = popTimes n (pop v .next)

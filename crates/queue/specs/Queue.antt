@@ -1,5 +1,5 @@
 -- The queue as a list: the codes that wait, first in first out, and at most one that is held. Written from 01's section
--- "Queue and sender" and its refusals 2, 3 and 7; 47 CFR 79.101 knows no queue.
+-- "Queue and sender" and its refusals 2, 3 and 7; 47 CFR 79.101 has no queue.
 use Prim.Native.Nat.{ℕ, _+_}
 use mathlib.Core.Bool.{Bool, true, false, cond, _&&_, not}
 use mathlib.Core.List.{List, [], _∷_, _++_}
@@ -69,7 +69,7 @@ ifRoom full (refused k) = refused k
 abbrev pub admitBy : Bool → Outcome Unit → Bool → Outcome Bool
 admitBy nul domain full = cond nul (answer false) (ifRoom full domain)
 
--- whether a code that is accepted is stored, with so many waiting
+-- whether a code that is accepted is stored, with n waiting
 unfoldable pub admit : Code → ℕ → Outcome Bool
 admit c n = admitBy (isNul c) (inDomain c) (isFull n)
 
@@ -91,7 +91,7 @@ pub record Pop : Type 0 where
 abbrev popped : Pair → List Code → List Code → Option Code → Pop
 popped p took waiting held = record { pair = p; took = took; next = queued waiting held }
 
--- the pair that a code is written as; what may wait or be held can be written, so that padding stands for none
+-- the pair that a code is written as; what may wait or be held can be written, so padding stands for none
 abbrev pub sent : Outcome (Pair × ℕ) → Pair
 sent (answer x) = x .0
 sent (refused n) = pair 0x80 0x80

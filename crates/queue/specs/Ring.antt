@@ -1,5 +1,5 @@
 -- The ring: which list it stands for, which states are well formed (01's refusal 12), and the record that each call
--- leaves. What a call answers is the list's definition at the ring's list; only where the codes lie is said here.
+-- leaves. The answers are the list's, from `Queue`; where the codes lie is in the port's own words.
 use Prim.Native.Nat.{ℕ, zero, suc, _+_, _-_, _%_}
 use mathlib.Core.Bool.{Bool, true, cond, _&&_}
 use mathlib.Core.List.{List, [], _∷_}
@@ -28,7 +28,7 @@ use Rattle.queue.specs.declared.ring.Slot.{Slot}
 abbrev pub slot : Code → Slot
 slot c = record { code = c }
 
--- the code at a place, counted on over the seam
+-- the code at a place, which wraps around at 64
 abbrev pub codeAt : List Slot → ℕ → Code
 codeAt slots at = getD slots (at % 64) (slot code.Nul) .code
 
@@ -73,7 +73,7 @@ tested q done = cond (wellFormed q) done (refused 12, q)
 abbrev pub freshRing : Queue
 freshRing = record { slots = replicate 64 (slot code.Nul); start = 0; waiting = 0; held = held.Absent }
 
--- a code stored behind those that wait
+-- a code stored after those that wait
 abbrev pub stored : Queue → Code → Queue
 stored q c = record {
   slots = set (q .slots) ((q .start + q .waiting) % 64) (slot c);
@@ -85,7 +85,7 @@ stored q c = record {
 unfoldable pub pushRing : Queue → Code → Outcome Unit × Queue
 pushRing q c = tested q (entered (admit c (q .waiting)) (stored q c) q)
 
--- a pop changes no place of the ring: as many in front are free again as codes left the list
+-- a pop changes no place of the ring: as many at the front are free again as codes left the list
 abbrev pub gone : Queue → ℕ
 gone q = length (waitingIn q) - length (pop (view q) .next .waiting)
 
@@ -103,7 +103,7 @@ popRing q = tested q (answer (pop (view q) .pair), leftIn q)
 unfoldable pub countRing : Queue → Outcome ℕ × Queue
 countRing q = tested q (answer (count (view q)), q)
 
--- what each answer says
+-- the outcome of each answer
 abbrev pub pushAnswerOutcome : PushAnswer → Outcome Unit
 pushAnswerOutcome push-answer.Accepted = answer tt
 pushAnswerOutcome push-answer.UnknownByte = refused 2

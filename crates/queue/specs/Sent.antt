@@ -1,7 +1,7 @@
 -- The pair that stands for the codes that a pop took and the command that it then holds, from 01's section "Queue and
 -- sender": two single codes in their order; a single code with 0x80, or with 0x20 where the command now held needs a
 -- backspace; a command by itself; and with nothing taken 20 80 before the command now held, or padding. And which of
--- these pairs a set is to read as commands, and whether it reads a pair as one.
+-- these pairs a receiver is to read as commands, and whether it reads a pair as one.
 use mathlib.Core.Bool.{Bool, false, cond, not}
 use mathlib.Core.List.{List, [], _∷_}
 use mathlib.Core.Option.{Option, none, some}

@@ -1,5 +1,5 @@
--- What a pop does to the ring, as the functions inside `pop` hand it on: the pair that goes out, how many places are
--- freed in front, and what is held afterwards. From the list's pop; `Ring.popRing` is said without it.
+-- What a pop does to the ring, for the functions inside `pop`, in the port's own words: the pair that goes out, how
+-- many places are freed, and what is held afterwards. `Ring.popRing` is defined without it.
 use Prim.Native.Nat.{ℕ, _+_, _-_, _%_}
 use lib.ListN.{length}
 use Rattle.queue.specs.Queue.{Pop, Queued, pop}

@@ -53,7 +53,7 @@ pub(crate) fn held_turn(code: Code) -> Turn
 }
 
 // A command with no single code before it. One that needs a backspace is held, and a space goes out first: an extended
-// character takes its place, and a mid-row code, which takes nothing back, stands behind it.
+// character replaces it, and a mid-row code, which replaces nothing, comes after it.
 pub(crate) fn command_turn(command: Code) -> Turn
     ensures { λ r. ⌜ r ≡ turnOf 1 (popCommand command []) ⌝ }
 {
@@ -71,7 +71,7 @@ pub(crate) fn command_turn(command: Code) -> Turn
     }
 }
 
-// A single code with nothing behind it.
+// A single code with nothing after it.
 pub(crate) fn last_turn(code: Code) -> Turn
     ensures { λ r. ⌜ r ≡ turnOf 1 (popSingle code []) ⌝ }
 {
@@ -83,7 +83,7 @@ pub(crate) fn last_turn(code: Code) -> Turn
     }
 }
 
-// A single code and the code behind it: both in one pair, or the first alone and the command behind it held.
+// A single code and the code after it: both in one pair, or the first alone and the command after it held.
 pub(crate) fn single_turn(first: Code, second: Code) -> Turn
     ensures { λ r. ⌜ r ≡ turnOf 2 (popTwo first second []) ⌝ }
 {
@@ -147,7 +147,7 @@ impl Queue {
         self.front_turn()
     }
 
-    // The queue after a turn: the places in front are free again.
+    // The queue after a turn: the places of the codes that left are free again.
     pub(crate) fn freeing(self, turn: Turn) -> Queue
         requires { ⌜ (self .start < 64) × (self .waiting ≤ 64) × (turn .freed ≤ self .waiting) ⌝ }
         ensures { λ r. ⌜ r ≡ freeing self turn ⌝ }

@@ -20,7 +20,7 @@ pub enum PushAnswer {
     IllFormed,
 }
 
-// A state stands before its answer: the compiler then copies the ring straight to where the answer is kept.
+// The state comes before the answer: the compiler then copies the ring straight to where the answer is kept.
 pub struct Pushed {
     pub queue: Queue,
     pub answer: PushAnswer,
@@ -35,7 +35,7 @@ pub(crate) enum Admission {
     Full,
 }
 
-// What becomes of a code: NUL passes even where the queue is full, and 2 and 3 come before 7.
+// What becomes of a code: NUL passes even where the queue is full, and 2 and 3 are tested before 7.
 pub(crate) fn admission_of(nul: bool, domain: Domain, full: bool) -> Admission
     ensures { λ r. ⌜ admissionOutcome r ≡ admitBy nul (domainOutcome domain) full ⌝ }
 {
@@ -64,7 +64,7 @@ impl Queue {
         64 <= waiting
     }
 
-    // The queue with a code behind those that wait, at the place after the last, which is place 0 at the seam.
+    // The queue with a code after those that wait, at the place after the last, wrapping around to place 0.
     pub(crate) fn stored(self, code: Code) -> Queue
         requires { ⌜ (self .start < 64) × (self .waiting < 64) ⌝ }
         ensures { λ r. ⌜ r ≡ stored self code ⌝ }
@@ -84,7 +84,7 @@ impl Queue {
         }
     }
 
-    // Puts a code behind those that wait. NUL is accepted and not stored; a refusal hands the queue back as it was.
+    // Puts a code after those that wait. NUL is accepted and not stored; a refusal hands the queue back as it was.
     pub fn push(self, code: Code) -> Pushed
         ensures { λ r. ⌜ pushOutcome r ≡ pushRing self code ⌝ }
     {

@@ -8,13 +8,13 @@ pub struct Slot {
     pub code: Code,
 }
 
-// A command that the next pop sends, since the pair before it was needed for what stands in front of it.
+// A command that the next pop sends, since the pair before it carried the single code or space that precedes it.
 pub enum Held {
     Absent,
     Of(Code),
 }
 
-// The waiting codes stand at `start` and behind it, over the seam to place 0 where they reach the end.
+// The waiting codes stand from `start` on, and wrap around to place 0 at the end.
 pub struct Queue {
     pub slots: [Slot; 64],
     pub start: usize,
@@ -35,7 +35,7 @@ impl Queue {
         }
     }
 
-    // A fresh queue in the place of any other.
+    // A fresh queue, whatever the state was.
     pub fn reset(self) -> Queue
         ensures { λ r. ⌜ r ≡ freshRing ⌝ }
     {

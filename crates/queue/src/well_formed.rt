@@ -8,7 +8,7 @@ use crate::ring::Queue;
 use code::Code;
 use code::Domain;
 
-// Whether a code can be written, refusals 2 and 3 aside.
+// Whether a code can be written, without the number of its refusal.
 fn is_inside(code: Code) -> bool
     ensures { λ r. ⌜ r ≡ isInside code ⌝ }
 {
@@ -31,8 +31,8 @@ pub(crate) fn is_nul(code: Code) -> bool
     }
 }
 
-// Whether a code may wait: any but NUL that can be written. Kind by kind and not by a `match`: of its four arms the
-// compiler makes a table of jumps, and the test of a letter takes half as long again.
+// Whether a code may wait: any but NUL that can be written. Kind by kind and not by a `match`: the compiler
+// makes a jump table of its four arms, and the test of a letter takes half as long again.
 pub(crate) fn may_wait(code: Code) -> bool
     ensures { λ r. ⌜ r ≡ mayWait code ⌝ }
 {

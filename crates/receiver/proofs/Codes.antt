@@ -1,4 +1,4 @@
--- A character that may be absent, there and back.
+-- A character that may be absent is recovered from its outcome.
 -- Assumes nothing.
 use mathlib.Core.Path.{_≡_, refl}
 use Rattle.code.specs.Code.{characterOutcome}

@@ -1,6 +1,6 @@
 -- Copies of one command in a row: read where the last pair is another, the odd ones act and the even ones are skipped;
--- read where it is the last pair, the other way round. Once of the answers, and once of the states too, which tells an
--- acting copy from a skipped one also where the command has no event.
+-- read where it is the last pair, the other way round. Proved of the answers, and of the states too, which distinguish
+-- an acting copy from a skipped one even where the command has no event.
 -- Assumes nothing.
 use mathlib.Core.Bool.{Bool, true, false, cond}
 use mathlib.Core.List.{List, [], _∷_}
@@ -23,7 +23,7 @@ use Rattle.receiver.specs.declared.state.Cea608State.{Cea608State}
 use Rattle.receiver.specs.declared.state.LastField.{LastField}
 use Rattle.receiver.specs.declared.state.LastPair.the-variants as last
 
--- n in turn, beginning with the first
+-- n in all, a and b in turn
 abbrev pub inTurn : {A : Type 0} → ℕ → A → A → List A
 inTurn zero a b = []
 inTurn (suc n) a b = a ∷ inTurn n b a

@@ -1,5 +1,4 @@
 pub mod Codes
 pub mod Copies
-pub mod FrameRate
 pub mod OneAnswer
 pub mod Step

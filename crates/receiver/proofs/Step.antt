@@ -42,7 +42,7 @@ command-acts s p c h other = step-command s p c h ∙ rw other
 pub repeat-is-skipped : (s : Cea608State) (p : Pair) (c : ControlCode) → IsCommand p c → isLast p (s .«last_data») ≡ true → step s p ≡ (answer none, state last.Absent (s .«last_channel») (s .«last_received_field»))
 repeat-is-skipped s p c h same = step-command s p c h ∙ rw same
 
--- where it is not the last pair, reading once is reading
+-- where it is not the last pair, `once` is `step`
 pub once-where-no-repeat : (s : Cea608State) (p : Pair) (c : ControlCode) → IsCommand p c → isLast p (s .«last_data») ≡ false → once s p ≡ step s p
 once-where-no-repeat s p c h other = ap (afterReadingOnce s p) (h .1) ∙ sym (command-acts s p c h other)
 
@@ -50,7 +50,7 @@ once-where-no-repeat s p c h other = ap (afterReadingOnce s p) (h .1) ∙ sym (c
 pub hit-is-refused : (s : Cea608State) (p : Pair) (n : ℕ) → readPair (p .0) (p .1) ≡ refused n → step s p ≡ (refused n, s)
 hit-is-refused s p n h = ap (afterReading s p) h
 
--- so 1 comes exactly where a byte has an even count of ones
+-- so the refusal is 1, exactly where a byte has an even count of ones
 pub even-is-refused-1 : (s : Cea608State) (p : Pair) → isOddPair p ≡ false → step s p ≡ (refused 1, s)
 even-is-refused-1 s p even = hit-is-refused s p 1 (even-is-refused (p .0) (p .1) even)
 

@@ -1,5 +1,5 @@
--- What codes say, as events. What a command does is from 47 CFR 79.101; that alarms, flash, the text commands, `Unknown`
--- and a symbol without a character give none is from 01.
+-- The events that codes encode. What a command does is from 47 CFR 79.101 (f) and (h); that alarms, flash, the text
+-- commands, `Unknown` and a symbol without a character give none is from 01.
 use Prim.Native.Nat.{ℕ}
 use mathlib.Core.Bool.{false}
 use mathlib.Core.Option.{Option, none, some}

@@ -1,4 +1,3 @@
 pub mod Heard
 pub mod Receiver
 pub mod Reading
-pub mod Padding

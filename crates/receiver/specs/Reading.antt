@@ -1,5 +1,5 @@
--- Reading a list of pairs: the fold of the receiver's step. Beside it the same with no test for repeats, `readOnce`: every
--- command acts.
+-- Reading a list of pairs, in the port's own words: the fold of the receiver's step, and `readOnce`, the same with no
+-- test for repeats, so that every command acts.
 use Prim.Native.Nat.{ℕ}
 use mathlib.Core.List.{List, [], _∷_}
 use mathlib.Core.Option.{Option, none, some}
@@ -33,7 +33,7 @@ events (answer none ∷ os) = events os
 events (answer (some e) ∷ os) = e ∷ events os
 events (refused n ∷ os) = events os
 
--- what was said, events and refusals, in order
+-- what was reported, events and refusals, in order
 abbrev pub said : List (Outcome (Option Cea608)) → List (Outcome (Option Cea608))
 said [] = []
 said (answer none ∷ os) = said os

@@ -1,5 +1,5 @@
--- The receiver, from 01's section of that name. 47 CFR 79.101's rule is that a control code sent twice acts once; which
--- copies act, what a hit leaves, and what text does to the wait for a repeat are the crate's, as 01 has them.
+-- The receiver, from 01's section of that name. That a repeated control code acts once is 47 CFR 79.101 (i)(4)'s. Which
+-- copies act, what a corrupted pair leaves, and what text does to the wait for a repeat are 01's and the crate's.
 use mathlib.Core.Bool.{Bool, false, cond, _&&_}
 use mathlib.Core.Option.{Option, none}
 use lib.Dec.{eqb}
@@ -29,7 +29,7 @@ state p ch f = record { «last_data» = p; «last_channel» = ch; «last_receive
 abbrev pub fresh : Cea608State
 fresh = state last.Absent channel.Unknown last-field.Unknown
 
--- the field that a command named last, whatever came behind it
+-- the field that a command named last, whatever came after it
 abbrev pub lastField : Cea608State → LastField
 lastField s = s .«last_received_field»
 

@@ -1,4 +1,4 @@
-// What codes say, as events.
+// The events that codes encode.
 ghost use mathlib.Core.Path.{_≡_};
 ghost use Rattle.receiver.specs.Heard.{heardOutcome, eventOf, commandEvent, symbolEvent, textEvent};
 ghost use Rattle.code.specs.Outcome.{answer};

@@ -1,5 +1,5 @@
-// What a pair does to a set: events out of pairs, one field at a time. A command that is sent twice acts once, and text
-// goes to the channel that spoke last.
+// The receiver: the caption events that pairs encode, one field at a time. A command that is sent twice acts once, and
+// text goes to the channel of the last command.
 
 pub mod heard;
 pub mod state;

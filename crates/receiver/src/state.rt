@@ -31,7 +31,7 @@ pub enum LastField {
     Known(Field),
 }
 
-// A state of any contents is good.
+// Any contents are a valid state.
 pub struct Cea608State {
     pub last_data: LastPair,
     pub last_channel: LastChannel,
@@ -74,7 +74,7 @@ impl Cea608State {
         }
     }
 
-    // A command: skipped where it repeats the last pair, which then is no longer awaited.
+    // A command: skipped where it repeats the last pair; then no repeat is awaited.
     pub(crate) fn command(self, pair: Pair, code: ControlCode) -> Decoded
         ensures { λ r. ⌜ decodedOutcome r ≡ heardCommand self pair code ⌝ }
     {
@@ -129,7 +129,7 @@ impl Cea608State {
         }
     }
 
-    // The field that a command named last, by which fields that were swapped can be told.
+    // The field that a command named last, by which swapped fields can be detected.
     pub fn last_received_field(self) -> LastField
         ensures { λ r. ⌜ r ≡ lastField self ⌝ }
     {

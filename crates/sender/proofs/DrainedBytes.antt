@@ -1,47 +1,22 @@
 -- What a drain does to the output, byte by byte: as many bytes as before, those of its sends' pairs from the start on, and
--- every other as it was. And a drain is so many sends in a row: its pairs are theirs.
+-- every other as it was; and how many sends it makes.
 -- Assumes nothing.
 use mathlib.Core.Bool.{Bool, true, false, cond}
 use mathlib.Core.List.{List, [], _∷_, _++_}
 use mathlib.Core.Logic.{_⊎_, inl, inr, ⊎-elim}
-use mathlib.Core.Path.{_≡_, refl, ap, ap₂, sym, subst, _∙_}
+use mathlib.Core.Path.{_≡_, refl, ap, sym, subst, _∙_}
 use Prim.Native.Nat.{ℕ, zero, suc, _+_, _*_, _-_, _≤_, _<_}
 use native.Mathlib.Omega.{arith}
-use lib.ListN.{List·getD-append, drop, getD, length, length-append, length-drop, replicate, take}
+use lib.ListN.{List·getD-append, drop, getD, length, length-append, length-drop, take}
 use lib.Seq.{getD-append-add, getD-drop, getD-take, length-take-le}
 use Rattle.code.specs.Outcome.{Outcome}
 use Rattle.code.specs.declared.pair.Pair.{Pair}
 use Rattle.sender.proofs.Lent.{drained-as}
-use Rattle.sender.proofs.Refines.{send-good, send-refines}
-use Rattle.sender.specs.Agreement.{Act, sending, afterActs, given, sentBy}
-use Rattle.sender.specs.Drain.{bytesOf, drainSender, drained, drainedPairs, filled, sendTimes}
-use Rattle.sender.specs.Good.{Good}
-use Rattle.sender.specs.Sender.{sendSender, view, wellFormed}
+use Rattle.sender.specs.Drain.{bytesOf, drainSender, drained, drainedPairs, filled}
+use Rattle.sender.specs.Sender.{view, wellFormed}
 use Rattle.sender.specs.SendsLeft.{afterSends}
 use Rattle.sender.specs.Sending.{Sending, isIdle, send}
 use Rattle.sender.specs.declared.sender.Sender.{Sender}
-
--- a drain's pairs are those of as many sends, and it makes no more of them than its limit and its room
-abbrev pub justSends : ℕ → List Act
-justSends n = replicate n sending
-
-pub drained-pairs-are-sent : (limit room : ℕ) (s : Sender) → Good s → drainedPairs limit room (view s) ≡ sentBy (justSends (length (drainedPairs limit room (view s)))) s
-drained-pairs-are-sent zero room s g = refl
-drained-pairs-are-sent (suc limit) zero s g = refl
-drained-pairs-are-sent (suc limit) (suc zero) s g = refl
-drained-pairs-are-sent (suc limit) (suc (suc room)) s g =
-    unless-idle (isIdle (view s)) (drained-pairs-are-sent limit room (sendSender s .1) (send-good s g))
-  where
-    unless-idle : (t : Bool) → drainedPairs limit room (view (sendSender s .1)) ≡ sentBy (justSends (length (drainedPairs limit room (view (sendSender s .1))))) (sendSender s .1) → cond t [] (send (view s) .pair ∷ drainedPairs limit room (send (view s) .next)) ≡ sentBy (justSends (length (cond t [] (send (view s) .pair ∷ drainedPairs limit room (send (view s) .next))))) s
-    unless-idle true later = refl
-    unless-idle false later =
-        let told = send-refines s g in
-        let here = ap (drainedPairs limit room) (told .1) in
-        ap₂ (λ (l : List Pair) (o : Outcome Pair). given o ++ l) (sym here ∙ later ∙ ap (λ (l : List Pair). sentBy (justSends (length l)) (sendSender s .1)) here) (sym (told .0))
-
-pub drained-state-is-theirs : (n : ℕ) (s : Sender) → sendTimes n s ≡ afterActs (justSends n) s
-drained-state-is-theirs zero s = refl
-drained-state-is-theirs (suc n) s = drained-state-is-theirs n (sendSender s .1)
 
 -- it makes no more sends than its limit, and writes no more bytes than there is room for
 pub within-the-limit : (limit room : ℕ) (v : Sending) → length (drainedPairs limit room v) ≤ limit
@@ -69,7 +44,7 @@ pub two-a-pair : (ps : List Pair) → length (bytesOf ps) ≡ 2 * length ps
 two-a-pair [] = refl
 two-a-pair (p ∷ ps) = omega (arith, two-a-pair ps)
 
--- the output afterwards: as long as before, and the same in front of the start and behind the last pair
+-- the output afterwards: as long as it was, and the same before the start and after the last pair
 module _ (out : List ℕ) (start : ℕ) (ps : List Pair) (inside : start ≤ length out) (room : length (bytesOf ps) ≤ length (drop start out)) where
   abbrev written : List ℕ
   written = take start out ++ filled (drop start out) ps
@@ -123,7 +98,7 @@ why-it-stopped (suc limit) (suc (suc room)) v =
         (λ (x : isIdle (afterSends (length ps) (send v .next)) ≡ true). inr (inr x)) h)
         later
 
--- and all of it of the drain itself, from a well-formed state and with the start inside the output
+-- the same of the drain itself, from a well-formed state and with the start inside the output
 module _ (s : Sender) (out : List ℕ) (start limit : ℕ) (formed : wellFormed s ≡ true) (inside : start ≤ length out) where
   abbrev pub itsPairs : List Pair
   itsPairs = drainedPairs limit (length (drop start out)) (view s)

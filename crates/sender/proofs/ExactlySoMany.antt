@@ -1,5 +1,5 @@
--- There is no better bound than 3 n + 1 sends: n codes that each want a space in front, behind a command whose repeat is
--- owed, take all of them. For every n up to 64 such a state is reached from a fresh one.
+-- There is no better bound than 3 n + 1 sends: n codes that each need a space before them, after a command whose repeat
+-- is owed, take all of them. For every n up to 64 such a state is reached from a fresh one.
 -- Assumes nothing.
 use mathlib.Core.Bool.{Bool, true, false}
 use mathlib.Core.List.{List, [], _∷_, _++_}
@@ -21,14 +21,14 @@ use Rattle.queue.specs.Ring as ring
 use Rattle.sender.proofs.Order.{sends-stay-good}
 use Rattle.sender.proofs.Refines.{push-good, push-refines, says-whether-idle}
 use Rattle.sender.proofs.SendsLeft.{sends-refine, with-codes-busy}
-use Rattle.sender.specs.Agreement.{queueing, afterActs}
-use Rattle.sender.specs.Agreement as act
+use Rattle.sender.specs.Calls.{pushing}
+use Rattle.sender.specs.Calls as call
 use Rattle.sender.specs.Drain.{sendTimes}
 use Rattle.sender.specs.Good.{Good}
+use Rattle.sender.specs.Replies.{senderAfter}
 use Rattle.sender.specs.Sender.{freshSender, idleSender, pushSender, sendSender, view, wellFormed}
-use Rattle.sender.specs.SendsLeft.{afterSends, fullOf}
+use Rattle.sender.specs.SendsLeft.{A-acute, afterSends, fullOf}
 use Rattle.sender.specs.Sending.{Sending, isIdle, push, send, sending}
-use Rattle.sender.specs.TriedByHand.{A-acute}
 use Rattle.sender.specs.declared.sender.Sender.{Sender}
 
 module _ (c : Code) (two : isSingle c ≡ false) (wants : needsBackspace c ≡ true) (command : isCommandPair (pairOf c) ≡ true) where
@@ -60,13 +60,13 @@ module _ (c : Code) (two : isSingle c ≡ false) (wants : needsBackspace c ≡ t
       ∙ ap (λ (s : Sending). isIdle (afterSends k s)) (held-then n)
       ∙ needs-them-all n k (omega arith)
 
--- so it is with Á, 12 20: sent once as 92 20, and n times more behind it, as many as may wait
+-- such a code is Á, 12 20: sent once as 92 20, with n more waiting after it
 abbrev pub pushedTimes : ℕ → Sender → Sender
 pushedTimes zero s = s
 pushedTimes (suc n) s = pushSender (pushedTimes n s) A-acute .1
 
 abbrev pub sentOnce : Sender
-sentOnce = afterActs (queueing A-acute ∷ act.sending ∷ act.sending ∷ []) freshSender
+sentOnce = senderAfter (pushing A-acute ∷ call.sending ∷ call.sending ∷ []) freshSender
 
 one-behind : (n : ℕ) → replicate n A-acute ++ (A-acute ∷ []) ≡ replicate (suc n) A-acute
 one-behind zero = refl
@@ -99,8 +99,7 @@ A-acute-needs-them-all : (n k : ℕ) → k < 3 * n + 1 → isIdle (afterSends k 
 unfolding ones onesIn writeCode pairOf
 A-acute-needs-them-all n k less = needs-them-all A-acute refl refl refl n k less
 
--- for every n up to 64 a state with n codes, reached from a fresh one, that says after no fewer than 3 n + 1 sends that it
--- is idle
+-- for every n up to 64 a state with n codes, reached from a fresh one, that does not report idle before 3 n + 1 sends
 pub needs-exactly-so-many : (n k : ℕ) → n ≤ 64 → k < 3 * n + 1 → idleSender (sendTimes k (pushedTimes n sentOnce)) .0 ≡ answer false
 needs-exactly-so-many n k few less =
     let s = pushedTimes n sentOnce in

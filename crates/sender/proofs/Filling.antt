@@ -1,4 +1,4 @@
--- The writer of pairs, one turn at a time. What it comes to from a state, with so many sends made and the part filled up
+-- The writer of pairs, one turn at a time. What it comes to from a state, with some sends made and the part filled up
 -- to a place, is the same before a send and after it; with no turn left it is what has been done.
 -- Assumes nothing.
 use mathlib.Core.Bool.{true, false}
@@ -19,7 +19,7 @@ use Rattle.sender.specs.Sending.{Sending, isIdle, send}
 use Rattle.sender.specs.declared.send.Next.{Next}
 use Rattle.sender.specs.declared.sender.Sender.{Sender}
 
--- the pairs that are left to send: none at the limit, out of room or idle, else one and those behind it
+-- the pairs that are left to send: none at the limit, out of room or idle, else one and those after it
 none-at-limit : (n room : ℕ) (v : Sending) → n ≡ 0 → drainedPairs n room v ≡ []
 none-at-limit n room v e = ap (λ (k : ℕ). drainedPairs k room v) e
 
@@ -44,7 +44,7 @@ one-more (suc n) (suc (suc room)) v more space e =
     let less : room ≡ suc (suc room) - 2 = omega arith in
     rw e (ap₂ (λ (k r : ℕ). send v .pair ∷ drainedPairs k r (send v .next)) fewer less)
 
--- a pair stored at a place: the front is longer by its two bytes, and the rest is what was behind them
+-- a pair stored at a place: the filled part is longer by its two bytes, and the rest is what was after them
 abbrev storedAt : List ℕ → ℕ → Pair → List ℕ
 storedAt part at p = set (set part at (p .0)) (at + 1) (p .1)
 
@@ -78,7 +78,7 @@ module _ (part : List ℕ) (at : ℕ) (p : Pair) (room : 2 ≤ length part - at)
       sym (filled-from ps)
       ∙ ap₂ (λ (i j : ℕ). take i (set (set part at (p .0)) j (p .1)) ++ filled (drop i (set (set part at (p .0)) j (p .1))) ps) two one
 
--- so many sends, a state and a part, once the pairs ps are sent from the place on
+-- the count of sends, the state and the part, once the pairs ps are sent from the place on
 abbrev onceSent : ℕ → Sender → List ℕ → ℕ → List Pair → ℕ × Sender × List ℕ
 onceSent sends s part at ps = (sends + length ps, sendTimes (length ps) s, take at part ++ filled (drop at part) ps)
 
@@ -130,7 +130,7 @@ one-send limit sends s part at formed more room busy =
     ∙ ap₂ (λ (n r : ℕ). onceSent (sends + 1) (sendSender s .1) next (at + 2) (drainedPairs n r (send (view s) .next))) fewer less
     ∙ ap (λ (v : Sending). onceSent (sends + 1) (sendSender s .1) next (at + 2) (drainedPairs (limit - (sends + 1)) (length next - (at + 2)) v)) (sym (sent-view s formed))
 
--- the same turn, made with what the next pair was found to be
+-- the same turn, with the next pair that the code found
 pub one-turn : (limit sends : ℕ) (s : Sender) (part : List ℕ) (at : ℕ) (r : Next) → wellFormed s ≡ true → nextOutcome r ≡ sendSender s → sends < limit → 2 ≤ length part - at → isIdle (view s) ≡ false → comesTo limit (sends + 1) (r .sender) (set (set part at (r .pair .0)) (at + 1) (r .pair .1)) (at + 2) ≡ comesTo limit sends s part at
 one-turn limit sends s part at r formed sent more room busy =
     let told : _≡_ {A = Outcome Pair} (answer (r .pair)) (answer (send (view s) .pair)) = ap (λ (x : Outcome Pair × Sender). x .0) sent ∙ sent-pair s formed in

@@ -41,7 +41,7 @@ unchanged-without-reset (c ∷ cs) s e no-reset =
     ap (λ (r : Reply × Sender). senderAfter cs (r .1)) (call-refused c s e (both-left (not (isReset c)) (noReset cs) no-reset))
     ∙ unchanged-without-reset cs s e (both-right (not (isReset c)) (noReset cs) no-reset)
 
--- and are refused, each of them, whatever comes behind
+-- and are refused, each of them, whatever comes after
 refused-before : (cs later : List Call) (s : Sender) → wellFormed s ≡ false → noReset cs ≡ true → senderReplies (cs ++ later) s ≡ map refusal cs ++ senderReplies later s
 refused-before [] later s e no-reset = refl
 refused-before (c ∷ cs) later s e no-reset =

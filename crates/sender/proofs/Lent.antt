@@ -1,5 +1,5 @@
--- What the drain leaves, by the part of the output that it lent: with the start inside the output, the part is all from the
--- start on, and comes back with nothing behind it.
+-- What the drain leaves, by the part of the output that it lent: with the start inside the output, the part is all from
+-- the start on, and comes back with nothing after it.
 -- Assumes nothing.
 use mathlib.Core.Bool.{true, false}
 use mathlib.Core.List.{List, _++_}

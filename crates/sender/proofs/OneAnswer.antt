@@ -1,15 +1,15 @@
--- No second answer can meet a promise: the outcome of an answer, the state beside it and, of a drain, the output tell the
--- whole of what a call returns, since the answer is found again from its outcome.
+-- The answer is unique: the outcome of a call, with the state beside it and, of a drain, the output, is injective,
+-- since the answer can be recovered from it.
 -- Assumes nothing.
 use mathlib.Core.Bool.{Bool, cond}
 use mathlib.Core.List.{List}
 use mathlib.Core.Path.{_≡_, refl, ap, ap₂, sym, _∙_}
 use Prim.Native.Nat.{ℕ}
 use lib.Dec.{eqb}
-use Rattle.code.proofs.OneAnswer.{Told}
+use Rattle.code.proofs.OneAnswer.{Injective}
 use Rattle.code.specs.Outcome.{Outcome, answer, refused}
 use Rattle.code.specs.declared.pair.Pair.{Pair}
-use Rattle.queue.proofs.OneAnswer.{count-answer-told, pop-answer-told, push-answer-told}
+use Rattle.queue.proofs.OneAnswer.{count-answer-injective, pop-answer-injective, push-answer-injective}
 use Rattle.queue.specs.declared.count.CountAnswer.{CountAnswer}
 use Rattle.queue.specs.declared.pop.PopAnswer.{PopAnswer}
 use Rattle.queue.specs.declared.push.PushAnswer.{PushAnswer}
@@ -26,25 +26,25 @@ use Rattle.sender.specs.declared.push.Pushed.{Pushed}
 use Rattle.sender.specs.declared.send.Sent.{Sent}
 use Rattle.sender.specs.declared.sender.Sender.{Sender}
 
--- what stands beside an outcome
+-- the state beside an outcome
 abbrev beside : {A : Type 0} → A × Sender → Sender
 beside r = r .1
 
 -- a push, a send and a count, whose answers are the queue's
-pub push-told : Told pushOutcome
-push-told r s e =
+pub push-injective : Injective pushOutcome
+push-injective r s e =
     ap₂ {C = Pushed} (λ (a : PushAnswer) (x : Sender). record { answer = a; sender = x })
-    (push-answer-told (r .answer) (s .answer) (ap (λ (w : Outcome Unit × Sender). w .0) e)) (ap beside e)
+    (push-answer-injective (r .answer) (s .answer) (ap (λ (w : Outcome Unit × Sender). w .0) e)) (ap beside e)
 
-pub send-told : Told sendOutcome
-send-told r s e =
+pub send-injective : Injective sendOutcome
+send-injective r s e =
     ap₂ {C = Sent} (λ (a : PopAnswer) (x : Sender). record { answer = a; sender = x })
-    (pop-answer-told (r .answer) (s .answer) (ap (λ (w : Outcome Pair × Sender). w .0) e)) (ap beside e)
+    (pop-answer-injective (r .answer) (s .answer) (ap (λ (w : Outcome Pair × Sender). w .0) e)) (ap beside e)
 
-pub count-told : Told countOutcome
-count-told r s e =
+pub count-injective : Injective countOutcome
+count-injective r s e =
     ap₂ {C = Counted} (λ (a : CountAnswer) (x : Sender). record { answer = a; sender = x })
-    (count-answer-told (r .answer) (s .answer) (ap (λ (w : Outcome ℕ × Sender). w .0) e)) (ap beside e)
+    (count-answer-injective (r .answer) (s .answer) (ap (λ (w : Outcome ℕ × Sender). w .0) e)) (ap beside e)
 
 -- whether idle; the number of a refusal is not looked at, since it is refused by 12 only
 abbrev idleAnswerOf : Outcome Bool → IdleAnswer
@@ -56,13 +56,13 @@ idle-answer-found idle-answer.Idle = refl
 idle-answer-found idle-answer.Busy = refl
 idle-answer-found idle-answer.IllFormed = refl
 
-pub idle-answer-told : Told idleAnswerOutcome
-idle-answer-told a b e = sym (idle-answer-found a) ∙ ap idleAnswerOf e ∙ idle-answer-found b
+pub idle-answer-injective : Injective idleAnswerOutcome
+idle-answer-injective a b e = sym (idle-answer-found a) ∙ ap idleAnswerOf e ∙ idle-answer-found b
 
-pub idle-told : Told idleOutcome
-idle-told r s e =
+pub idle-injective : Injective idleOutcome
+idle-injective r s e =
     ap₂ {C = Idleness} (λ (a : IdleAnswer) (x : Sender). record { answer = a; sender = x })
-    (idle-answer-told (r .answer) (s .answer) (ap (λ (w : Outcome Bool × Sender). w .0) e)) (ap beside e)
+    (idle-answer-injective (r .answer) (s .answer) (ap (λ (w : Outcome Bool × Sender). w .0) e)) (ap beside e)
 
 -- a drain, and the output that it leaves
 abbrev drainAnswerOf : Outcome ℕ → DrainAnswer
@@ -74,14 +74,14 @@ drain-answer-found (drain-answer.Sends n) = refl
 drain-answer-found drain-answer.StartPastEnd = refl
 drain-answer-found drain-answer.IllFormed = refl
 
-pub drain-answer-told : Told drainAnswerOutcome
-drain-answer-told a b e = sym (drain-answer-found a) ∙ ap drainAnswerOf e ∙ drain-answer-found b
+pub drain-answer-injective : Injective drainAnswerOutcome
+drain-answer-injective a b e = sym (drain-answer-found a) ∙ ap drainAnswerOf e ∙ drain-answer-found b
 
--- the drain's outcome is of its answer and of the output beside it
-pub drain-told : Told (λ (r : Drained × List ℕ). drainOutcome (r .0) (r .1))
-drain-told r s e =
+-- a drain's outcome has the output too
+pub drain-injective : Injective (λ (r : Drained × List ℕ). drainOutcome (r .0) (r .1))
+drain-injective r s e =
     ap₂ {C = Drained × List ℕ} (λ (x : Drained) (out : List ℕ). (x, out))
     (ap₂ {C = Drained} (λ (a : DrainAnswer) (x : Sender). record { answer = a; sender = x })
-    (drain-answer-told (r .0 .answer) (s .0 .answer) (ap (λ (w : Outcome ℕ × Sender × List ℕ). w .0) e))
+    (drain-answer-injective (r .0 .answer) (s .0 .answer) (ap (λ (w : Outcome ℕ × Sender × List ℕ). w .0) e))
     (ap (λ (w : Outcome ℕ × Sender × List ℕ). w .1) e))
     (ap (λ (w : Outcome ℕ × Sender × List ℕ). w .2) e)

@@ -1,6 +1,6 @@
 -- Over any sequence of calls, refused ones among them: every state that is reached is well formed, with at most 64 codes
 -- waiting, and the codes accepted since the state was fresh or last reset are, in order, those that the sends took, then
--- the held one, then those waiting. A drain is so many sends.
+-- the held one, then those waiting. A drain is a number of sends.
 -- Assumes nothing.
 use mathlib.Core.Bool.{Bool, true, false, cond}
 use mathlib.Core.List.{List, [], _∷_, _++_, append-assoc}
@@ -41,7 +41,7 @@ one-taken s g =
     send-takes-from-the-front (view s)
     ∙ ap₂ (λ (l : List Code) (v : Sending). l ++ inside (v .queue)) (sym (taken-is s g)) (sym (send-refines s g .1))
 
--- and so do many
+-- and so do many in a row
 pub sends-stay-good : (n : ℕ) (s : Sender) → Good s → Good (sendTimes n s)
 sends-stay-good zero s g = g
 sends-stay-good (suc n) s g = sends-stay-good n (sendSender s .1) (send-good s g)
@@ -62,7 +62,7 @@ drained-by s out start limit false past formed = rw (formed, past) refl
 pub a-drain-is-sends : (s : Sender) (out : List ℕ) (start limit : ℕ) → Good s → drainSender s out start limit .1 ≡ sendTimes (sendsIn (drainSender s out start limit .0)) s
 a-drain-is-sends s out start limit g = drained-by s out start limit (ltb (length out) start) refl (g .formed)
 
--- a count and a question change nothing
+-- a count and a test for idle change nothing
 pub count-same : (s : Sender) → Good s → countSender s .1 ≡ s
 unfolding countSender
 count-same s g = rw (g .formed) refl

@@ -105,7 +105,7 @@ sent-view s e =
     ap (λ (r : Outcome Pair × Sender). view (r .1)) (sent-as s e)
     ∙ view-after (owedIn (s .owed)) (s .queue) (queue-formed s e)
 
--- a command pair of odd parity may be owed, and of no other pair a repeat is
+-- a command pair of odd parity may be owed, and no other pair is
 repeat-by : (p : Pair) (t : Bool) → isCommandPair p ≡ t → SentPair p → owedFits (owedIn (owedAs (repeatOf p))) ≡ true
 repeat-by p true e odd = rw (e, odd .first .odd, odd .second .odd, e) refl
 repeat-by p false e odd = rw e refl
@@ -155,7 +155,7 @@ pub ill-formed-idle : (s : Sender) → wellFormed s ≡ false → idleSender s �
 unfolding idleSender
 ill-formed-idle s e = rw e refl
 
--- what a well-formed state says of itself
+-- what a well-formed state answers
 pub counts-codes : (s : Sender) → wellFormed s ≡ true → countSender s .0 ≡ answer (count (queue.view (s .queue)))
 unfolding countSender
 counts-codes s e = rw e refl

@@ -16,19 +16,18 @@ use Rattle.code.specs.declared.pair.Pair.{Pair}
 use Rattle.queue.specs.Queue.{Pop, Queued, byteOf, count, isSingle, pairOf, pop, popCommand, popHeld, popSingle, popTwo, popWaiting, queued}
 use Rattle.sender.proofs.Order.{sends-stay-good}
 use Rattle.sender.proofs.Refines.{says-whether-idle, send-good, send-refines}
-use Rattle.sender.specs.Doubled.{stillOwed}
 use Rattle.sender.specs.Drain.{sendTimes}
 use Rattle.sender.specs.Good.{Good}
 use Rattle.sender.specs.Sender.{idleSender, sendSender, view}
 use Rattle.sender.specs.SendsLeft.{afterSends, sendsLeft}
-use Rattle.sender.specs.Sending.{Sending, isIdle, repeatOf, send, sendOwed, sendPopped, sending}
+use Rattle.sender.specs.Sending.{Sending, isIdle, repeatOf, send, sendOwed, sendPopped, sending, stillOwed}
 use Rattle.sender.specs.declared.sender.Sender.{Sender}
 
 one-owed : (o : Option Pair) → length (stillOwed o) ≤ 1
 one-owed none = omega arith
 one-owed (some p) = omega arith
 
--- a pop leaves fewer sends to come than the codes before it wanted
+-- a pop leaves fewer sends to come than there were
 abbrev Fewer : Pop → ℕ → Type 0
 Fewer p n = sendsLeft (sendPopped p .next) < n
 

@@ -26,7 +26,7 @@ pub record History : Type 0 where
   pub took : List Code
   pub sender : Sender
 
--- the codes that a send takes, and so many sends in a row; a refused send takes none
+-- the codes that a send takes, and n sends in a row; a refused send takes none
 abbrev pub takenBy : Sender → List Code
 takenBy s = cond (wellFormed s) (send (view s) .took) []
 

@@ -21,7 +21,7 @@ drainedPairs (suc limit) zero s = []
 drainedPairs (suc limit) (suc zero) s = []
 drainedPairs (suc limit) (suc (suc room)) s = cond (isIdle s) [] (send s .pair ∷ drainedPairs limit room (send s .next))
 
--- the state after so many sends
+-- the state after n sends
 abbrev pub sendTimes : ℕ → Sender → Sender
 sendTimes zero s = s
 sendTimes (suc n) s = sendTimes n (sendSender s .1)
@@ -30,7 +30,7 @@ abbrev pub bytesOf : List Pair → List ℕ
 bytesOf [] = []
 bytesOf (p ∷ ps) = p .0 ∷ p .1 ∷ bytesOf ps
 
--- bytes with the pairs in front, and behind them what was there
+-- a part with the pairs at its beginning, and after them what was there
 abbrev pub filled : List ℕ → List Pair → List ℕ
 filled part ps = bytesOf ps ++ drop (length (bytesOf ps)) part
 

@@ -1,4 +1,4 @@
--- A well-formed sender, of the 64 places that every value of the type has.
+-- A well-formed sender, of the 64 places that every value of the type has: the port's own words.
 use mathlib.Core.Bool.{true}
 use mathlib.Core.Path.{_≡_}
 use lib.ListN.{length}

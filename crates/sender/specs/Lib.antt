@@ -2,12 +2,7 @@ pub mod Sending
 pub mod Sender
 pub mod Drain
 pub mod Next
-pub mod Doubled
 pub mod SendsLeft
 pub mod Calls
 pub mod Replies
-pub mod Agreement
-pub mod OneByOne
 pub mod Good
-pub mod AnyPadding
-pub mod TriedByHand

@@ -1,5 +1,5 @@
--- Contracts of the helpers inside the crate: a send from a well-formed state, and the writer of pairs that the drain lends
--- a part of the output to.
+-- Contracts of helpers inside the crate, in the port's own words: a send from a well-formed state, and the writer of
+-- pairs that the drain lends a part of the output to.
 use Prim.Native.Nat.{ℕ}
 use mathlib.Core.List.{List}
 use lib.ListN.{length}
@@ -20,7 +20,7 @@ pairIn (refused n) = pair 0x80 0x80
 abbrev pub nextOutcome : Next → Outcome Pair × Sender
 nextOutcome r = (answer (r .pair), r .sender)
 
--- so many sends: their count, the state after them, and the part with their pairs in front
+-- the sends of these pairs: their count, the state after them, and the part with the pairs at its beginning
 abbrev pub filledBy : Sender → List ℕ → List Pair → ℕ × Sender × List ℕ
 filledBy s part ps = (length ps, sendTimes (length ps) s, filled part ps)
 

@@ -36,7 +36,7 @@ onSender counting s = (toCount (countSender s .0), countSender s .1)
 onSender asking s = (toAsk (idleSender s .0), idleSender s .1)
 onSender resetting s = (toReset, freshSender)
 
--- a drain of the lists: 11, else so many sends, and their pairs in the output from the start on
+-- a drain of the lists: 11, else its sends, and their pairs in the output from the start on
 abbrev pub drainedTo : List ℕ → ℕ → List Pair → Sending → Reply × Sending
 drainedTo out start ps v = (toDrain (answer (length ps)) (take start out ++ filled (drop start out) ps), afterSends (length ps) v)
 

@@ -1,5 +1,5 @@
 -- The sender's state: which lists it stands for, which states are well formed (01's refusal 12), and the state that each
--- call leaves. What a call answers is the definition's at the lists.
+-- call leaves. The answers are the lists', from `Sending`.
 use Prim.Native.Nat.{ℕ}
 use mathlib.Core.Bool.{Bool, true, false, cond, _&&_}
 use mathlib.Core.Option.{Option, none, some}
@@ -37,7 +37,7 @@ view s = sending (ring.view (s .queue)) (owedIn (s .owed))
 abbrev pub sender : Queue → Owed → Sender
 sender q o = record { queue = q; owed = o }
 
--- well formed: a queue that is, and an owed pair absent or a command pair of odd parity
+-- well formed: a well-formed queue, and an owed pair absent or a command pair of odd parity
 abbrev pub mayBeOwed : Pair → Bool
 mayBeOwed p = isOddPair p && isCommandPair p
 
@@ -75,7 +75,7 @@ countSender s = tested s (answer (count (ring.view (s .queue))), s)
 unfoldable pub idleSender : Sender → Outcome Bool × Sender
 idleSender s = tested s (answer (isIdle (view s)), s)
 
--- what each answer says; those of a push, a send and a count are the queue's answers
+-- the outcome of each answer; those of a push, a send and a count are the queue's answers
 abbrev pub pushOutcome : Pushed → Outcome Unit × Sender
 pushOutcome r = (pushAnswerOutcome (r .answer), r .sender)
 

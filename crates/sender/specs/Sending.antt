@@ -1,7 +1,7 @@
--- The sender as lists: the queue, and the pair that is owed a second time. Written from 01's section "Queue and sender".
--- That a command is sent twice in a row is 47 CFR 79.101's; that text is not, and when the repeat goes out, are 01's.
+-- The sender as lists: the queue, and the pair that is owed a second time. From 01's section "Queue and sender". That a
+-- command is sent twice is 47 CFR 79.101 (i)(1)'s; that text is not, and when the repeat goes out, are 01's.
 use mathlib.Core.Bool.{Bool, true, false, cond, _&&_}
-use mathlib.Core.List.{List, []}
+use mathlib.Core.List.{List, [], _∷_}
 use mathlib.Core.Option.{Option, none, some}
 use lib.Dec.{eqb}
 use Rattle.code.specs.Outcome.{Outcome}
@@ -21,6 +21,11 @@ sending q owed = record { queue = q; owed = owed }
 abbrev pub noneOwed : Option Pair → Bool
 noneOwed none = true
 noneOwed (some p) = false
+
+-- the repeat that is still to come, if any
+abbrev pub stillOwed : Option Pair → List Pair
+stillOwed none = []
+stillOwed (some p) = p ∷ []
 
 -- nothing waiting, held or owed
 abbrev pub isIdle : Sending → Bool

@@ -1,4 +1,4 @@
-// Writing what is left to say into an output, in whole pairs.
+// Writing what is left to send into an output, in whole pairs.
 ghost use mathlib.Core.Bool.{true};
 ghost use mathlib.Core.Path.{_≡_};
 ghost use Rattle.sender.specs.Drain.{drainOutcome, drainSender};
@@ -25,7 +25,7 @@ pub(crate) struct Progress {
 }
 
 impl Sender {
-    // The writer of pairs: fills a part of the output from its front, until idle, out of room or at the limit.
+    // The writer of pairs: fills a part of the output from its beginning, until idle, out of room or at the limit.
     pub(crate) fn write_pairs(self, part: &mut [u8], limit: usize) -> Progress
         requires { ⌜ wellFormed self ≡ true ⌝ }
         ensures { λ r. ⌜ progressOutcome r (now (part .exit)) ≡ filling self (now (part .entry)) limit ⌝ }

@@ -1,4 +1,4 @@
-// Whether the sender has anything left to say.
+// Whether the sender has anything left to send.
 ghost use mathlib.Core.Path.{_≡_};
 ghost use Rattle.sender.specs.Sender.{idleOutcome, idleSender, view};
 ghost use Rattle.sender.specs.Sending.{isIdle};

@@ -11,7 +11,7 @@ pub struct Pushed {
 }
 
 impl Sender {
-    // Puts a code behind those that wait. NUL is accepted and not stored; a refusal hands the sender back as it was.
+    // Puts a code after those that wait. NUL is accepted and not stored; a refusal hands the sender back as it was.
     pub fn push(self, code: Code) -> Pushed
         ensures { λ r. ⌜ pushOutcome r ≡ pushSender self code ⌝ }
     {

@@ -73,7 +73,7 @@ impl Sender {
         }
     }
 
-    // The next pair for the line; 80 80 where nothing is left to say.
+    // The next pair for the line; 80 80 where nothing is left to send.
     pub fn send(self) -> Sent
         ensures { λ r. ⌜ sendOutcome r ≡ sendSender self ⌝ }
     {

@@ -26,7 +26,7 @@ impl Sender {
         }
     }
 
-    // A fresh sender in the place of any other.
+    // A fresh sender, whatever the state was.
     pub fn reset(self) -> Sender
         ensures { λ r. ⌜ r ≡ freshSender ⌝ }
     {

@@ -8,7 +8,7 @@ use code::Pair;
 use code::parity::check_odd_parity;
 use code::parity::strip_parity;
 
-// Whether a television reads the pair as a command: its first byte is 10 to 1F.
+// Whether a receiver reads the pair as a command: its first byte is 10 to 1F.
 pub(crate) fn is_command(pair: Pair) -> bool
     ensures { λ r. ⌜ r ≡ isCommandPair pair ⌝ }
 {

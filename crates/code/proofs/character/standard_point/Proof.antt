@@ -1,4 +1,5 @@
--- `code::character::standard_point` meets its contract: each of the eleven is what stands in the text, and the others are ASCII's (`ascii-but`).
+-- `code::character::standard_point` meets its contract: the eleven are the definition's, and the rest ASCII
+-- (`ascii-but`).
 -- Assumes nothing.
 use borrow.Author.Tests.{ne-eqb}
 use Rattle.code.proofs.Bytes.{ascii-but}

@@ -1,4 +1,4 @@
--- `code::control::names_field` meets its contract: the upper digit tells 20 to 2F from every other byte.
+-- `code::control::names_field` meets its contract: the upper digit distinguishes 20 to 2F from every other byte.
 -- Assumes nothing.
 use Rattle.code.proofs.Meaning.{in-row-two}
 use Rattle.code.proofs.control.names_field.Statement.{statement}

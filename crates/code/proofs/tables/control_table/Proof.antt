@@ -1,4 +1,4 @@
--- `code::tables::control_table` meets its contract: the table is the text's, entry by entry.
+-- `code::tables::control_table` meets its contract: the table is the definition's, entry by entry.
 -- Assumes nothing.
 use mathlib.Core.Path.{refl}
 use Rattle.code.specs.Tables.{controlEntries}

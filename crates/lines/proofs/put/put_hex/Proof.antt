@@ -9,7 +9,7 @@ use native.Mathlib.Omega.{arith}
 use Rattle.lines.proofs.put.put_hex.Statement.{statement}
 use Rattle.lines.proofs.put.put_hex.Tie as tie
 
--- sixteens left out twice are left out once
+-- a remainder by 16 is its own remainder
 once : (n : ℕ) → hexDigit (n % 16 % 16) ≡ hexDigit (n % 16)
 once n =
     let same : n % 16 % 16 ≡ n % 16 = omega arith in

@@ -1,5 +1,5 @@
--- `queue::push::admission_of` meets its contract: NUL is answered before all else, and each other answer where its tests
--- have found what the definition asks for it.
+-- `queue::push::admission_of` meets its contract: NUL is answered before all else, and each other answer where the
+-- definition's tests lead to it.
 -- Assumes nothing.
 use borrow.Author.Needs.{needs}
 use mathlib.Core.Bool.{Bool, true, false}

@@ -1,5 +1,5 @@
--- `queue::well_formed::may_wait` meets its contract, by the kind of the code: NUL may not wait, and any other is told by
--- whether it can be written.
+-- `queue::well_formed::may_wait` meets its contract, by the kind of the code: NUL may not wait, and any other may if it
+-- can be written.
 -- Assumes nothing.
 use borrow.Author.Needs.{needs}
 use denote.Enum.Declared.{tagOf}

@@ -1,4 +1,5 @@
--- `code::code::Code::from_char` meets its contract: 0 is refused, a letter stands one entry behind its place, and the rest is the symbols' search.
+-- `code::code::Code::from_char` meets its contract: 0 is refused, a letter is one entry after its place, and the rest
+-- is the symbols' search.
 -- Assumes nothing.
 use borrow.Author.Needs.{needs}
 use borrow.Author.Tests.{eq-eqb}
@@ -31,7 +32,7 @@ find-point-requires c κs = search needs
 enum-known-entry : tie.Need-enum-known-entry
 enum-known-entry c = search needs
 
--- the search goes over the text's table
+-- the search is over the definition's table
 found : (c : tie.After-find-point) → c .find-point .result ≡ foundAt (position (c .before .before .before .before .args .c) (map pointOf codeEntries))
 found c = c .find-point .ensures ∙ ap (λ (t : List ℕ). foundAt (position (c .before .before .before .before .args .c) (map pointOf t))) (c .before .before .code-table .ensures)
 

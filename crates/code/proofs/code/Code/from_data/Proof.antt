@@ -1,4 +1,5 @@
--- `code::code::Code::from_data` meets its contract: both bytes pass or the pair is refused, and the upper digit of the first tells a command from text.
+-- `code::code::Code::from_data` meets its contract: both bytes pass or the pair is refused, and the upper digit of the
+-- first distinguishes a command from text.
 -- Assumes nothing.
 use borrow.Author.Needs.{needs}
 use borrow.Author.Tests.{eq-eqb, ne-eqb, not-false, not-true}

@@ -1,4 +1,5 @@
--- `code::code::Code::symbol_from_char` meets its contract: an entry that has the character is a symbol's, since the entries behind the symbols have none.
+-- `code::code::Code::symbol_from_char` meets its contract: an entry that has the character is a symbol's, since the
+-- entries after the symbols have none.
 -- Assumes nothing.
 use borrow.Author.Needs.{needs}
 use Prim.Native.Nat.{ℕ}
@@ -23,7 +24,7 @@ find-point-requires c κs = search needs
 enum-known-entry : tie.Need-enum-known-entry
 enum-known-entry c = search needs
 
--- the search goes over the text's table
+-- the search is over the definition's table
 found : (c : tie.After-find-point) → c .find-point .result ≡ foundAt (position (c .before .before .before .args .c) (map pointOf controlEntries))
 found c = c .find-point .ensures ∙ ap (λ (t : List ℕ). foundAt (position (c .before .before .before .args .c) (map pointOf t))) (c .before .before .control-table .ensures)
 

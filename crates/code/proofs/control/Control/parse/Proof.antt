@@ -1,4 +1,5 @@
--- `code::control::Control::parse` meets its contract: the preambles, and the rest by the first byte and then the second's upper digit, are together what the text says (`decided-is`).
+-- `code::control::Control::parse` meets its contract: the preambles, and the rest by the first byte and then the
+-- second's upper digit, are together the definition (`decided-is`).
 -- Assumes nothing.
 use borrow.Author.Needs.{needs}
 use borrow.Author.Tests.{ne-eqb}
@@ -40,7 +41,7 @@ at-requires-2 c κs = search needs
 parse-tab-requires : tie.Need-parse-tab-requires
 parse-tab-requires c κs = search needs
 
--- what is said below 40, once the arm is known
+-- what the bytes mean below 40, once the arm is known
 told : (c : tie.Else1) (r : Meaning) → r ≡ meaningOf (decidedOther (c .before .args .prefix) (c .before .args .second)) → r ≡ meaningOf (meaning (c .before .args .prefix) (c .before .args .second))
 told c r found = other-told _ _ r (c .before .pre .0) (c .before .pre .1) (c .if1 .left) found
 

@@ -1,4 +1,4 @@
--- `code::preamble::PreambleType::color` meets its contract: the style's number tells its colour.
+-- `code::preamble::PreambleType::color` meets its contract: the style's number determines its colour.
 -- Assumes nothing.
 use borrow.Author.Needs.{needs}
 use borrow.Author.Tests.{lt-ltb, le-ltb}

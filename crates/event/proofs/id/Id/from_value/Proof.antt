@@ -1,4 +1,4 @@
--- `event::id::Id::from_value` meets its contract: the code tests the number's bits, which tell the number.
+-- `event::id::Id::from_value` meets its contract: the code tests the number's bits, which determine it.
 -- Assumes nothing.
 use Prim.Native.Nat.{ℕ}
 use borrow.Author.Tests.{ne-eqb}
@@ -12,7 +12,7 @@ use Rattle.event.specs.Id.{fromValue}
 use Rattle.event.proofs.id.Id.from_value.Statement.{statement}
 use Rattle.event.proofs.id.Id.from_value.Tie as tie
 
--- a number is told by its bits
+-- a number is determined by its bits
 value-is : (z : ℤ) (k : ℕ) → SFits w8 z → ofZ w8 z ≡ k → z ≡ toZ w8 k
 value-is z k fits e = sym (toZ-ofZ w8 z fits) ∙ ap (toZ w8) e
 

@@ -1,5 +1,5 @@
--- `lines::line::Line::flush` meets its contract. The loop's invariant: so many bytes of what waits stand in front of the
--- output, and the place is as far on. The measure is what is left of the line.
+-- `lines::line::Line::flush` meets its contract. The loop's invariant: the output begins with the first bytes of what
+-- waits, and the place is as far on. The measure is what is left of the line.
 -- Assumes nothing.
 use borrow.Author.Needs.{needs}
 use Prim.Native.Nat.{ℕ, _+_, _-_, _≤_, _<_}

@@ -1,5 +1,5 @@
--- `queue::ring::Queue::pop` meets its contract: what the test of 12 found opens the definition, and the turn is the rest:
--- of the held code, or else of those that wait.
+-- `queue::ring::Queue::pop` meets its contract: 12 is tested first, and the rest is the turn: of the held code, or else
+-- of those that wait.
 -- Assumes nothing.
 use borrow.Author.Needs.{needs}
 use borrow.Author.Tests.{not-true, not-false}

@@ -1,5 +1,5 @@
--- `queue::ring::Queue::push` meets its contract: 12 is tested first; then the admission is the definition's at its three
--- parts, and tells what is left of the record.
+-- `queue::ring::Queue::push` meets its contract: 12 is tested first; then the admission is the definition's at its
+-- three parts, and determines the record that is left.
 -- Assumes nothing.
 use borrow.Author.Needs.{needs}
 use borrow.Author.Tests.{not-true, not-false}

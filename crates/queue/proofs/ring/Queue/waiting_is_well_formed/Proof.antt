@@ -1,5 +1,5 @@
--- `queue::ring::Queue::waiting_is_well_formed` meets its contract. The loop's invariant: what is asked of all waiting codes is
--- what is asked of those from the place that it has reached.
+-- `queue::ring::Queue::waiting_is_well_formed` meets its contract. The loop's invariant: all waiting codes may wait
+-- exactly where those from the place reached on may.
 -- Assumes nothing.
 use borrow.Author.Needs.{needs}
 use borrow.Author.Tests.{not-true, not-false}

@@ -1,4 +1,4 @@
--- `sender::sender::Sender::is_idle` meets its contract: what the test of 12 found opens the definition.
+-- `sender::sender::Sender::is_idle` meets its contract: 12 is tested first, and the rest is the definition's test.
 -- Assumes nothing.
 use borrow.Author.Needs.{needs}
 use borrow.Author.Tests.{not-true, not-false}

@@ -1,6 +1,6 @@
--- The agreement at work, and that its limits are real. A programme of three things, roll-up with two rows, a carriage
--- return and "Hi", over a line that spoils one copy of each command is heard whole; with both copies of the carriage return
--- spoiled the window does not scroll; with the text spoiled its words are lost. antt computes each from the definitions.
+-- The agreement at work, and that its limits are real. Roll-up with two rows, a carriage return and "Hi" are decoded
+-- whole over a line that corrupts one copy of each command; with both copies of the carriage return corrupted the
+-- window does not scroll; with the text corrupted its words are lost. antt computes each from the definitions.
 -- Assumes nothing.
 use mathlib.Core.Bool.{false}
 use mathlib.Core.List.{List, [], _∷_, map}
@@ -29,12 +29,12 @@ use Rattle.queue.specs.Ring.{popRing, pushRing}
 use Rattle.queue.specs.Ring as ring
 use Rattle.receiver.specs.Reading.{answers, events, readOnce}
 use Rattle.receiver.specs.Receiver.{fresh}
-use Rattle.sender.proofs.OneByOne.{one-by-one-is-a-line}
-use Rattle.sender.specs.Agreement.{Act, queueing, sending, Agreement, Carried, EndsIdle, Line, queuePairs, refusal, sentBy}
-use Rattle.sender.specs.Agreement as agreed
-use Rattle.sender.specs.OneByOne as one
+use Rattle.agreement.proofs.OneByOne.{one-by-one-is-a-line}
+use Rattle.agreement.specs.Agreement.{Act, queueing, sending, Agreement, Carried, EndsIdle, Line, queuePairs, refusal, sentBy}
+use Rattle.agreement.specs.Agreement as agreed
+use Rattle.agreement.specs.OneByOne as one
 use Rattle.sender.specs.Sender.{freshSender, idleSender, pushSender, sendSender, wellFormed}
 use Rattle.sender.specs.Sending.{send}
 
 abbrev command : Command → Code
 command c = code.Control (record { field = Of fieldOne; channel = channelOne; control = control.Command c })
@@ -73,7 +73,7 @@ pub what-is-meant : events (readOnce fresh (rollUp ∷ return ∷ hi ∷ [])) �
 unfolding readPair ones onesIn standard
 what-is-meant = refl
 
--- a copy of each command spoiled, the first of the one and the second of the other: all is heard
+-- a copy of each command corrupted, the first of the one and the second of the other: all is decoded
 abbrev oneHitEach : List Pair
 oneHitEach = pair 0x14 0x25 ∷ rollUp ∷ return ∷ pair 0x94 0x2D ∷ hi ∷ []
 
@@ -83,16 +83,15 @@ one-hit-each-is-allowed =
     one-by-one-is-a-line line oneHitEach (refl, (refl, (refl, (refl, (refl, tt)))))
     (one.is-spoiled refl refl refl (one.arrives (one.arrives (one.is-spoiled refl refl refl (one.arrives one.ends)))))
 
-pub one-hit-each-is-heard : events (answers fresh oneHitEach) ≡ modeEvent ∷ returnEvent ∷ hiEvent ∷ []
+pub one-hit-each-is-decoded : events (answers fresh oneHitEach) ≡ modeEvent ∷ returnEvent ∷ hiEvent ∷ []
 unfolding readPair ones onesIn standard
-one-hit-each-is-heard = refl
+one-hit-each-is-decoded = refl
 
 pub one-hit-each-is-refused : map refusal (answers fresh oneHitEach) ≡ 1 ∷ 0 ∷ 0 ∷ 1 ∷ 0 ∷ []
 unfolding readPair ones onesIn standard
 one-hit-each-is-refused = refl
 
--- both copies of the carriage return spoiled: each pair is as the line may spoil it, but for the stretch, and the window
--- does not scroll
+-- both copies of the carriage return corrupted: the line may corrupt one, not both, and the window does not scroll
 abbrev twoHits : List Pair
 twoHits = rollUp ∷ rollUp ∷ pair 0x14 0xAD ∷ pair 0x94 0x2D ∷ hi ∷ []
 
@@ -105,7 +104,7 @@ pub two-hits-lose-a-command : events (answers fresh twoHits) ≡ modeEvent ∷ h
 unfolding readPair ones onesIn standard
 two-hits-lose-a-command = refl
 
--- the text spoiled, each stretch spared: its words are lost
+-- the text corrupted, and no command: its words are lost
 abbrev textHit : List Pair
 textHit = rollUp ∷ rollUp ∷ return ∷ return ∷ pair 0x48 0xE9 ∷ []
 
@@ -113,7 +112,7 @@ pub a-hit-on-text-loses-words : events (answers fresh textHit) ≡ modeEvent ∷
 unfolding readPair ones onesIn
 a-hit-on-text-loses-words = refl
 
--- so the agreement fails of both: what is heard has two events, and what was meant three
+-- so the agreement fails for both: two events are decoded, and three were meant
 fails : (arrived : List Pair) → length (events (answers fresh arrived)) ≡ 2 → Agreement programme arrived → ⊥
 fails arrived two agrees =
     let meant = agrees .same-events ∙ ap (λ (ps : List Pair). events (readOnce fresh ps)) (what-is-sent .1) ∙ what-is-meant in
@@ -125,7 +124,7 @@ no-agreement-over-two-hits agrees = fails twoHits (ap length two-hits-lose-a-com
 pub no-agreement-over-a-text-hit : Agreement programme textHit → ⊥
 no-agreement-over-a-text-hit agrees = fails textHit (ap length a-hit-on-text-loses-words) agrees
 
--- a carriage return queued twice is a stretch of four, and two hits among them lose one of the two scrolls
+-- a carriage return queued twice is a stretch of four, and two corrupted copies lose one of the two scrolls
 abbrev twoReturns : List Act
 twoReturns =
     queueing (command CarriageReturn) ∷ queueing (command CarriageReturn) ∷ sending ∷ sending ∷ sending ∷ sending ∷ []

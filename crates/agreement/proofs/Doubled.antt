@@ -15,15 +15,15 @@ use Rattle.queue.specs.Queue.{pop}
 use Rattle.queue.specs.Ring.{popRing}
 use Rattle.queue.specs.Ring as queue
 use Rattle.queue.specs.declared.ring.Queue.{Queue}
 use Rattle.sender.proofs.Refines.{push-good, pushed-as, queue-formed, send-good, send-refines}
-use Rattle.sender.specs.Agreement.{Act, queueing, sending, afterActs, given, popped, queuePairs, sentBy}
-use Rattle.sender.specs.Doubled.{doubled, stillOwed}
+use Rattle.agreement.specs.Agreement.{Act, queueing, sending, afterActs, given, popped, queuePairs, sentBy}
+use Rattle.agreement.specs.Doubled.{doubled}
 use Rattle.sender.specs.Good.{Good}
-use Rattle.sender.specs.OneByOne.{AllOdd}
+use Rattle.agreement.specs.OneByOne.{AllOdd}
 use Rattle.sender.specs.Sender.{owedIn, pushSender, sendSender, view}
-use Rattle.sender.specs.Sending.{Sending, repeatOf, send, sendOwed}
+use Rattle.sender.specs.Sending.{Sending, repeatOf, send, sendOwed, stillOwed}
 use Rattle.sender.specs.declared.sender.Owed.{Owed}
 use Rattle.sender.specs.declared.sender.Sender.{Sender}
 
 -- a well-formed queue gives its pair
 popped-as : (q : Queue) → queue.wellFormed q ≡ true → popRing q .0 ≡ answer (pop (queue.view q) .pair)
@@ -35,7 +35,7 @@ twice : (p : Pair) (ps : List Pair) (t : Bool) → isCommandPair p ≡ t → p �
 twice p ps true e = rw e refl
 twice p ps false e = rw e refl
 
--- one send in front of what is sent later
+-- one send before what is sent later
 one-send : (o : Option Pair) (q : Queue) (later ps : List Pair) → queue.wellFormed q ≡ true → later ≡ stillOwed (sendOwed o (queue.view q) .next .owed) ++ doubled ps → sendOwed o (queue.view q) .pair ∷ later ≡ stillOwed o ++ doubled (popped o q ++ ps)
 one-send (some p) q later ps formed e = ap (λ (l : List Pair). p ∷ l) e
 one-send none q later ps formed e =

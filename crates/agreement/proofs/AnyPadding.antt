@@ -1,16 +1,16 @@
--- The agreement and the frame-rate law together: of what has arrived, one copy spoiled in each stretch that was sent, padding
--- may be put in or taken out wherever the receiver awaits no repeat, and a set shows what was queued.
+-- The agreement and the frame-rate law together: of what has arrived, at most one copy corrupted in each stretch,
+-- padding may be put in or taken out wherever the receiver awaits no repeat, and it reports what was queued.
 -- Assumes nothing.
 use mathlib.Core.List.{List}
 use mathlib.Core.Path.{sym, _∙_}
 use Rattle.code.specs.declared.pair.Pair.{Pair}
-use Rattle.receiver.proofs.FrameRate.{frame-rate-law}
-use Rattle.receiver.specs.Padding.{Repadded}
+use Rattle.agreement.proofs.FrameRate.{frame-rate-law}
+use Rattle.agreement.specs.FrameRate.{Repadded}
 use Rattle.receiver.specs.Receiver.{fresh}
-use Rattle.sender.proofs.Agreement.{agreement}
-use Rattle.sender.specs.Agreement.{Act, EndsIdle, Line, sentBy}
-use Rattle.sender.specs.AnyPadding.{AtAnyPadding}
+use Rattle.agreement.proofs.Agreement.{agreement}
+use Rattle.agreement.specs.Agreement.{Act, EndsIdle, Line, sentBy}
+use Rattle.agreement.specs.AnyPadding.{AtAnyPadding}
 use Rattle.sender.specs.Sender.{freshSender}
 
 pub at-any-padding : (acts : List Act) (arrived padded : List Pair) → EndsIdle acts → Line (sentBy acts freshSender) arrived → Repadded fresh arrived padded → AtAnyPadding acts arrived padded
 at-any-padding acts arrived padded idle line repadded =

@@ -1,6 +1,6 @@
 -- The agreement, demand 3, for every list of acts and every line that the letter allows. What is sent is the queue's pairs
--- doubled (`Doubled`); of pairs sent doubled over such a line a set hears each once (`Heard`); and it refuses what the
--- line spoiled (`Refused`).
+-- doubled (`Doubled`); of pairs sent doubled over such a line a receiver decodes each once (`DecodedOnce`); and it
+-- refuses what the line corrupted (`Refused`).
 -- Assumes nothing.
 use mathlib.Core.Bool.{true, true≢false}
 use mathlib.Core.List.{List, [], _∷_, _++_, append-nil}
@@ -11,18 +11,18 @@ use Rattle.code.specs.declared.pair.Pair.{Pair}
 use Rattle.code.proofs.Both.{both-right}
 use Rattle.queue.specs.Queue.{count}
 use Rattle.receiver.specs.Receiver.{fresh}
-use Rattle.sender.proofs.Doubled.{doubled-is-odd, queue-pairs-are-odd, sent-is-doubled}
-use Rattle.sender.proofs.Heard.{doubled-is-heard-once}
-use Rattle.sender.proofs.OneByOne.{line-one-by-one}
+use Rattle.agreement.proofs.Doubled.{doubled-is-odd, queue-pairs-are-odd, sent-is-doubled}
+use Rattle.agreement.proofs.DecodedOnce.{doubled-is-decoded-once}
+use Rattle.agreement.proofs.OneByOne.{line-one-by-one}
 use Rattle.sender.proofs.Refines.{fresh-good, push-good, said-idle, send-good}
-use Rattle.sender.proofs.Refused.{the-spoiled-are-refused}
-use Rattle.sender.specs.Agreement.{Act, queueing, sending, DemandThree, EndsIdle, afterActs, queuePairs, sentBy}
-use Rattle.sender.specs.Doubled.{doubled, stillOwed}
+use Rattle.agreement.proofs.Refused.{the-spoiled-are-refused}
+use Rattle.agreement.specs.Agreement.{Act, queueing, sending, DemandThree, EndsIdle, afterActs, queuePairs, sentBy}
+use Rattle.agreement.specs.Doubled.{doubled}
 use Rattle.sender.specs.Good.{Good}
-use Rattle.sender.specs.OneByOne.{AllOdd, OneByOne}
+use Rattle.agreement.specs.OneByOne.{AllOdd, OneByOne}
 use Rattle.sender.specs.Sender.{freshSender, pushSender, sendSender, view}
-use Rattle.sender.specs.Sending.{noneOwed}
+use Rattle.sender.specs.Sending.{noneOwed, stillOwed}
 use Rattle.sender.specs.declared.sender.Sender.{Sender}
 
 nothing-owed : (o : Option Pair) → noneOwed o ≡ true → stillOwed o ≡ []
 nothing-owed none e = refl
@@ -50,7 +50,7 @@ agreement acts arrived idle line =
     let sent = sent-once-idle acts idle in
     let sent-odd = subst AllOdd (sym sent) (doubled-is-odd ps odd) in
     let passed = line-one-by-one (sentBy acts freshSender) arrived sent-odd line in
-    let heard = doubled-is-heard-once ps odd none arrived fresh fresh
+    let heard = doubled-is-decoded-once ps odd none arrived fresh fresh
     (subst (λ (l : List Pair). OneByOne none l arrived) sent passed) refl (record { channel = refl; field = refl }) in
     record {
       same-events = heard .same-events;

@@ -16,11 +16,11 @@ use Rattle.queue.specs.Ring.{popRing}
 use Rattle.queue.specs.declared.ring.Queue.{Queue}
 use Rattle.receiver.specs.Reading.{after, afterOnce, answers, events, readOnce}
 use Rattle.receiver.specs.Receiver.{fresh}
 use Rattle.sender.specs.Sender.{freshSender, idleSender, owedIn, pushSender, sendSender}
 use Rattle.sender.specs.declared.sender.Sender.{Sender}
 
 -- "Start with a fresh sender and a fresh receiver, never reset. Queue and send in any order, until nothing is queued and
--- no repeat is owed." A push that is refused is an act too, and so is one of NUL, and a send with nothing to say.
+-- no repeat is owed." A push that is refused is an act too, and so is one of NUL, and a send with nothing to send.
 pub data Act : Type 0 where
   queueing : Code → Act
   sending : Act
@@ -36,7 +36,7 @@ afterActs (a ∷ acts) s = afterActs acts (acted a s)
 abbrev pub EndsIdle : List Act → Type 0
 EndsIdle acts = idleSender (afterActs acts freshSender) .0 ≡ answer true
 
--- the pairs that go onto the line
+-- the pairs that are sent
 abbrev pub given : Outcome Pair → List Pair
 given (answer p) = p ∷ []
 given (refused n) = []
@@ -63,13 +63,13 @@ queuePairs [] s = []
 queuePairs (a ∷ acts) s = poppedIn a s ++ queuePairs acts (acted a s)
 
 -- "The line may spoil pairs so that parity shows it: no pair that is not a command, and at most one copy in each unbroken
--- stretch of one command pair." First pair by pair: it arrives as it was sent or, a command, with a byte of even parity.
+-- stretch of one command pair." Pair by pair: it arrives as it was sent or, if a command, with a byte of even parity.
 pub data Carried : List Pair → List Pair → Type 0 where
   ends : Carried [] []
   arrives : {p : Pair} {ps qs : List Pair} → Carried ps qs → Carried (p ∷ ps) (p ∷ qs)
   is-spoiled : {p q : Pair} {ps qs : List Pair} → isCommandPair p ≡ true → isOddPair q ≡ false → Carried ps qs → Carried (p ∷ ps) (q ∷ qs)
 
--- where a pair arrived as another: 1, else 0
+-- 1 where a pair arrived as another, else 0
 abbrev pub samePair : Pair → Pair → Bool
 samePair p q = eqb (p .0) (q .0) && eqb (p .1) (q .1)
 
@@ -82,7 +82,7 @@ abbrev pub hits : List ℕ → ℕ
 hits [] = 0
 hits (n ∷ ns) = n + hits ns
 
--- then stretch by stretch: wherever n copies of one pair were sent in a row, at most one of them is spoiled
+-- stretch by stretch: wherever n copies of one pair were sent in a row, at most one of them is corrupted
 abbrev pub OneHit : List Pair → List Pair → Type 0
 OneHit sent arrived =
     (before : List Pair) (n : ℕ) (p : Pair) (behind : List Pair) → sent ≡ before ++ (replicate n p ++ behind) → hits (take n (drop (length before) (spoiledPlaces sent arrived))) ≤ 1
@@ -102,7 +102,7 @@ pub record Agreement (acts : List Act) (arrived : List Pair) : Type 0 where
   pub same-events : events (answers fresh arrived) ≡ events (readOnce fresh (queuePairs acts freshSender))
   pub same-channel : after fresh arrived .«last_channel» ≡ afterOnce fresh (queuePairs acts freshSender) .«last_channel»
   pub same-field : after fresh arrived .«last_received_field» ≡ afterOnce fresh (queuePairs acts freshSender) .«last_received_field»
-  -- at each place 1, which is refusal 1, where the pair was spoiled, and 0 where it was not
+  -- at each place 1, which is refusal 1, where the pair was corrupted, and 0 where it was not
   pub refuses-the-spoiled : map refusal (answers fresh arrived) ≡ spoiledPlaces (sentBy acts freshSender) arrived
 
 abbrev pub DemandThree : Type 0

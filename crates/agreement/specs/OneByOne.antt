@@ -1,12 +1,12 @@
--- The line read pair by pair, with the one thing to remember: of which pair a copy was spoiled in the stretch so far, if of
--- one. `Line` says the same of whole stretches; proofs/OneByOne.antt leads from each to the other.
+-- The line pair by pair, in the port's own words. One thing is remembered: the pair of which a copy was corrupted in
+-- the stretch so far, if any. `Line` says the same of whole stretches; proofs/OneByOne.antt proves each from the other.
 use mathlib.Core.Bool.{Bool, true, false, cond}
 use mathlib.Core.List.{List, [], _∷_}
 use mathlib.Core.Option.{Option, none, some}
 use mathlib.Core.Path.{_≡_}
 use Rattle.code.specs.declared.pair.Pair.{Pair}
 use Rattle.code.specs.Read.{isCommandPair, isOddPair}
-use Rattle.sender.specs.Agreement.{samePair}
+use Rattle.agreement.specs.Agreement.{samePair}
 
 abbrev pub AllOdd : List Pair → Type 0
 AllOdd [] = Unit

@@ -1,5 +1,5 @@
--- 01's pairs tried by hand that are to be proved, those marked P, as one list in 01's order, each with what is asked of it
--- and what it gives. A set reads a pair by itself, or hears pairs when fresh; or codes are queued, and pairs popped.
+-- 01's pairs tried by hand that are to be proved, those marked P, as one list in 01's order, each with what is asked of
+-- it and what it gives. A pair is read by itself, or pairs by a fresh receiver, or codes are queued and pairs popped.
 use Prim.Native.Nat.{ℕ}
 use mathlib.Core.Bool.{false}
 use mathlib.Core.List.{List, [], _∷_, _++_, map}
@@ -10,7 +10,6 @@ use Rattle.code.specs.MidRow.{italic}
 use Rattle.code.specs.Letter.{letterAt}
 use Rattle.code.specs.Outcome.{Outcome, answer}
 use Rattle.code.specs.Read.{readPair}
-use Rattle.code.specs.Symbol.{symbolAt}
 use Rattle.code.specs.Write.{pair}
 use Rattle.code.specs.declared.code.Code.{Code}
 use Rattle.code.specs.declared.code.Code.the-variants as code
@@ -30,6 +29,7 @@ use Rattle.queue.specs.Calls.{Reply, popping, pushing, ringReplies, toPop, toPu
 use Rattle.queue.specs.Ring.{freshRing}
 use Rattle.receiver.specs.Reading.{answers}
 use Rattle.receiver.specs.Receiver.{fresh}
+use Rattle.sender.specs.SendsLeft.{A-acute}
 
 pub data Tried : Type 0 where
   reads : Pair → Tried
@@ -41,7 +41,7 @@ pub data Gave : Type 0 where
   heard : List (Outcome (Option Cea608)) → Gave
   replies : List Reply → Gave
 
--- codes that are pushed, and so many pops behind them
+-- codes that are pushed, and n pops after them
 abbrev pub try : Tried → Gave
 try (reads p) = codes (readPair (p .0) (p .1))
 try (hears ps) = heard (answers fresh ps)
@@ -52,10 +52,6 @@ rollUp2 = pair 0x94 0x25
 
 abbrev letter-H : Code
 letter-H = code.Letter (letterAt 0x28)
-
--- Á, 12 20
-abbrev pub A-acute : Code
-A-acute = code.Control (record { field = Absent; channel = channelOne; control = control.Symbol (symbolAt 16) })
 
 abbrev pub pairsTried : List Tried
 pairsTried =

@@ -1,6 +1,6 @@
--- What a set hears of pairs that were sent doubled over a line that spoils at most one copy in each stretch: as much as if
--- each pair were read once. Along a stretch the receiver holds no command before the hit, and the stretch's own behind it;
--- so of the two copies of each pair exactly one acts, the first before the hit and the second behind it.
+-- What a receiver decodes of pairs sent doubled over a line that corrupts at most one copy in each stretch: the same as
+-- if each pair were read once. Along a stretch it holds no command before the corrupted copy, and the stretch's own
+-- after it. So one of the two copies of each pair acts: the first before the corrupted copy, the second after it.
 -- Assumes nothing.
 use mathlib.Core.Bool.{Bool, true, false, cond, true≢false}
 use mathlib.Core.List.{List, [], _∷_}
@@ -16,41 +16,41 @@ use Rattle.code.specs.declared.control.ControlCode.{ControlCode}
 use Rattle.code.specs.declared.pair.Pair.{Pair}
 use Rattle.event.specs.declared.event.Cea608.{Cea608}
 use Rattle.receiver.proofs.Copies.{last-is-last}
-use Rattle.receiver.proofs.FrameRate.{quiet-is-no-repeat}
+use Rattle.agreement.proofs.FrameRate.{quiet-is-no-repeat}
 use Rattle.receiver.proofs.Step.{IsCommand, command-acts, command-once, even-is-refused-1, repeat-is-skipped, text-is-never-skipped, text-once}
-use Rattle.receiver.specs.Padding.{awaits}
+use Rattle.agreement.specs.FrameRate.{awaits}
 use Rattle.receiver.specs.Reading.{after, afterOnce, answers, events, once, readOnce}
 use Rattle.receiver.specs.Receiver.{acts, fieldAfter, heardText, isLast, state, step, textFor}
 use Rattle.receiver.specs.declared.state.Cea608State.{Cea608State}
 use Rattle.receiver.specs.declared.state.LastChannel.{LastChannel}
 use Rattle.receiver.specs.declared.state.LastPair.{LastPair}
 use Rattle.receiver.specs.declared.state.LastPair.the-variants as last
-use Rattle.sender.proofs.OneByOne.{same-is-equal, same-itself}
-use Rattle.sender.specs.Doubled.{doubled}
-use Rattle.sender.specs.OneByOne.{AllOdd, OneByOne, goesOn, wasSpoiled}
-use Rattle.sender.specs.OneByOne as one
+use Rattle.agreement.proofs.OneByOne.{same-is-equal, same-itself}
+use Rattle.agreement.specs.Doubled.{doubled}
+use Rattle.agreement.specs.OneByOne.{AllOdd, OneByOne, goesOn, wasSpoiled}
+use Rattle.agreement.specs.OneByOne as one
 
 -- two states with the same channel and field, whatever their last pairs
 pub record Same (s t : Cea608State) : Type 0 where
   pub channel : s .«last_channel» ≡ t .«last_channel»
   pub field : s .«last_received_field» ≡ t .«last_received_field»
 
--- what arrived, read from one state, is heard as the pairs read once from another
+-- what arrived, read from one state, gives the events of the pairs read once from another
 pub record Agrees (s t : Cea608State) (arrived ps : List Pair) : Type 0 where
   pub same-events : events (answers s arrived) ≡ events (readOnce t ps)
   pub ends-same : Same (after s arrived) (afterOnce t ps)
 
--- what the receiver holds: behind a hit the stretch's own command, else no command
+-- what the receiver holds: after a corrupted copy the stretch's own command, else no command
 abbrev pub Ready : Option Pair → LastPair → Type 0
 Ready none l = awaits l ≡ false
 Ready (some p) l = l ≡ last.Was p
 
--- so it takes a copy for a repeat exactly where one was spoiled in the stretch before
+-- so it takes a copy for a repeat exactly where one was corrupted before in the stretch
 repeat-is-told : (h : Option Pair) (l : LastPair) (p : Pair) (c : ControlCode) → IsCommand p c → Ready h l → isLast p l ≡ wasSpoiled h p
 repeat-is-told none l p c k r = quiet-is-no-repeat p c (k .0) l (k .1) r
 repeat-is-told (some q) l p c k r = ap (isLast p) r
 
--- an answer heard in front of both, and one in front of what arrived that says nothing
+-- an answer before both, and one without an event before what arrived alone
 events-behind : (o : Outcome (Option Cea608)) (xs ys : List (Outcome (Option Cea608))) → events xs ≡ events ys → events (o ∷ xs) ≡ events (o ∷ ys)
 events-behind (answer none) xs ys e = e
 events-behind (answer (some x)) xs ys e = ap (λ (l : List Cea608). x ∷ l) e
@@ -70,7 +70,7 @@ hit-in-front s t q qs ps even a =
     let one = even-is-refused-1 s q even in
     record { same-events = rw one (a .same-events); ends-same = rw one (a .ends-same) }
 
--- the rest of the pairs is heard alike, from wherever the line and the receiver stand
+-- the rest of the pairs gives the same events, wherever the line and the receiver stand
 abbrev Continues : List Pair → Type 0
 Continues ps =
     (h : Option Pair) (qs : List Pair) (s t : Cea608State) → OneByOne h (doubled ps) qs → Ready h (s .«last_data») → Same s t → Agrees s t qs ps
@@ -79,7 +79,7 @@ module _ (p : Pair) (ps : List Pair) (odd : isOddPair p ≡ true) (go : Continue
   parity : (isOdd (p .0) ≡ true) × (isOdd (p .1) ≡ true)
   parity = both-true (isOdd (p .0)) (isOdd (p .1)) odd
 
-  -- text arrives as it was sent, and is heard by both; the receiver holds it then
+  -- text arrives as it was sent, and is read by both; the receiver holds it then
   holds-text : (h : Option Pair) (t : Bool) → wasSpoiled h p ≡ t → isCommandPair p ≡ false → Ready (cond t h none) (last.Was p)
   holds-text h false w is = is
   holds-text none true w is = absurd (true≢false (sym w))
@@ -110,13 +110,13 @@ module _ (p : Pair) (ps : List Pair) (odd : isOddPair p ≡ true) (go : Continue
   acted-same : (s t : Cea608State) → Same s t → Same (acts s p said .1) (acts t p said .1)
   acted-same s t same = record { channel = refl; field = ap (fieldAfter (said .field)) (same .field) }
 
-  -- a copy that acts, where the stretch has had no hit; and what is left of the line then is heard
+  -- a copy that is not the last pair acts, and the rest of the line follows
   acts-heard : (s t : Cea608State) (qs : List Pair) → isCommandPair p ≡ true → isLast p (s .«last_data») ≡ false → Agrees (acts s p said .1) (acts t p said .1) qs ps → Agrees s t (p ∷ qs) (p ∷ ps)
   acts-heard s t qs is other a =
       heard-in-front s t _ _ (acts s p said .0) p p qs ps (command-acts s p said (is-command is) other)
       (command-once t p said (is-command is)) a
 
-  -- behind a first copy that acted: its repeat is skipped, or spoiled
+  -- after a first copy that acted: its repeat is skipped, or corrupted
   second-after-acting : (s t : Cea608State) (qs : List Pair) → isCommandPair p ≡ true → Same s t → s .«last_data» ≡ last.Was p → OneByOne none (p ∷ doubled ps) qs → Agrees s t qs ps
   second-after-acting s t qs is same holds (one.arrives {qs = qs′} rest) =
       silent-in-front s t (skipped s) p qs′ ps
@@ -125,7 +125,7 @@ module _ (p : Pair) (ps : List Pair) (odd : isOddPair p ≡ true) (go : Continue
   second-after-acting s t qs is same holds (one.is-spoiled {q = q} {qs = qs′} c w even rest) =
       hit-in-front s t q qs′ ps even (go (some p) qs′ s t rest holds same)
 
-  -- behind a first copy that was spoiled or skipped: the second arrives, and acts
+  -- after a first copy that was corrupted or skipped: the second arrives, and acts
   second-acts : (h : Option Pair) (s t : Cea608State) (qs : List Pair) → isCommandPair p ≡ true → Same s t → wasSpoiled h p ≡ true → isLast p (s .«last_data») ≡ false → OneByOne h (p ∷ doubled ps) qs → Agrees s t qs (p ∷ ps)
   second-acts h s t qs is same hit other (one.is-spoiled c w even rest) = absurd (true≢false (sym hit ∙ w))
   second-acts none s t qs is same hit other (one.arrives rest) = absurd (true≢false (sym hit))
@@ -160,7 +160,7 @@ module _ (p : Pair) (ps : List Pair) (odd : isOddPair p ≡ true) (go : Continue
 nothing-heard : (h : Option Pair) (qs : List Pair) (s t : Cea608State) → OneByOne h [] qs → Same s t → Agrees s t qs []
 nothing-heard h qs s t one.ends same = record { same-events = refl; ends-same = same }
 
-pub doubled-is-heard-once : (ps : List Pair) → AllOdd ps → Continues ps
-doubled-is-heard-once [] odd h qs s t sent ready same = nothing-heard h qs s t sent same
-doubled-is-heard-once (p ∷ ps) odd h qs s t sent ready same =
-    pair-heard p ps (odd .0) (doubled-is-heard-once ps (odd .1)) (isCommandPair p) refl h qs s t sent ready same
+pub doubled-is-decoded-once : (ps : List Pair) → AllOdd ps → Continues ps
+doubled-is-decoded-once [] odd h qs s t sent ready same = nothing-heard h qs s t sent same
+doubled-is-decoded-once (p ∷ ps) odd h qs s t sent ready same =
+    pair-heard p ps (odd .0) (doubled-is-decoded-once ps (odd .1)) (isCommandPair p) refl h qs s t sent ready same

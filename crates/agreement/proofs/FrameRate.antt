@@ -1,7 +1,6 @@
--- The frame-rate law: padding put in or taken out, at any places where no repeat is awaited, changes no event, nor the
--- order of events, no refusal, nor the channel or the field in the end, and what comes after cannot tell the two states
--- apart. And the case that its limit is real: padding put between the two copies of a carriage return makes it scroll
--- twice.
+-- The frame-rate law: padding put in or taken out, at any places where no repeat is awaited, changes no event, no
+-- refusal, not their order, nor the channel or the field at the end, and no later pair distinguishes the two states.
+-- And a case that shows its limit: with padding between the two copies of a carriage return, it scrolls twice.
 -- Assumes nothing.
 use mathlib.Core.Bool.{Bool, true, false, cond, _&&_, true≢false}
 use mathlib.Core.List.{List, [], _∷_}
@@ -23,21 +22,21 @@ use Rattle.code.specs.declared.control.ControlCode.{ControlCode}
 use Rattle.code.specs.declared.pair.Pair.{Pair}
 use Rattle.event.specs.declared.event.Cea608.{Cea608}
 use Rattle.event.specs.declared.event.Cea608.the-variants as event
-use Rattle.receiver.specs.Padding.{Alike, awaits, padding, Quiet, Repadded}
-use Rattle.receiver.specs.Padding as repadded
+use Rattle.agreement.specs.FrameRate.{Alike, FrameRateLaw, Quiet, Repadded, awaits, padding}
+use Rattle.agreement.specs.FrameRate as repadded
 use Rattle.receiver.specs.Reading.{after, answers, events, said}
 use Rattle.receiver.specs.Receiver.{afterReading, fieldAfter, fresh, heardCodes, heardText, isLast, state, step, Stepped, textFor}
 use Rattle.receiver.specs.declared.state.Cea608State.{Cea608State}
 use Rattle.receiver.specs.declared.state.LastChannel.{LastChannel}
 use Rattle.receiver.specs.declared.state.LastChannel.the-variants as channel
 use Rattle.receiver.specs.declared.state.LastField.{LastField}
 use Rattle.receiver.specs.declared.state.LastPair.{LastPair}
 use Rattle.receiver.specs.declared.state.LastPair.the-variants as last
 
 pub alike-itself : (s : Cea608State) → Alike s s
 alike-itself s = record { same-channel = refl; same-field = refl; same-wait = inl refl }
 
--- a command is never the last pair where that is quiet
+-- where no repeat is awaited, a command is never the last pair
 differs : (t u : Bool) → (t ≡ true → ⊥) → t && u ≡ false
 differs true u h = absurd (h refl)
 differs false u h = refl
@@ -107,13 +106,13 @@ no-text (channel.Known ch) = refl
 pub padding-step : (s : Cea608State) → step s padding ≡ (answer none, state (last.Was padding) (s .«last_channel») (s .«last_received_field»))
 padding-step s = ap (afterReading s padding) padding-read ∙ rw (no-text (s .«last_channel»))
 
--- an answer in front of two lists that say the same
+-- an answer before two lists that report the same
 said-behind : (o : Outcome (Option Cea608)) (os qs : List (Outcome (Option Cea608))) → said os ≡ said qs → said (o ∷ os) ≡ said (o ∷ qs)
 said-behind (answer none) os qs e = e
 said-behind (answer (some x)) os qs e = ap (λ (l : List (Outcome (Option Cea608))). answer (some x) ∷ l) e
 said-behind (refused n) os qs e = ap (λ (l : List (Outcome (Option Cea608))). refused n ∷ l) e
 
--- the events are among what was said
+-- the events are among what was reported
 events-said : (os : List (Outcome (Option Cea608))) → events (said os) ≡ events os
 events-said [] = refl
 events-said (answer none ∷ os) = events-said os
@@ -159,16 +158,7 @@ heard-alike s t ps qs (repadded.takes-out {ps = ps′} quiet r) a =
     let later = heard-alike (step s padding .1) t ps′ qs r (padded-first s t a quiet) in
     (padding-unheard s (answers (step s padding .1) ps′) ∙ later .0, later .1)
 
--- the law: from any state, the same events in the same order, the same refusals among them, the same channel and field in
--- the end, and two states that no later pair tells apart
-pub record SameCaptions (s : Cea608State) (ps qs : List Pair) : Type 0 where
-  pub same-events : events (answers s ps) ≡ events (answers s qs)
-  pub same-said : said (answers s ps) ≡ said (answers s qs)
-  pub ends-in-channel : after s ps .«last_channel» ≡ after s qs .«last_channel»
-  pub ends-in-field : after s ps .«last_received_field» ≡ after s qs .«last_received_field»
-  pub ends-alike : Alike (after s ps) (after s qs)
-
-pub frame-rate-law : (s : Cea608State) (ps qs : List Pair) → Repadded s ps qs → SameCaptions s ps qs
+pub frame-rate-law : FrameRateLaw
 frame-rate-law s ps qs r =
     let h = heard-alike s s ps qs r (alike-itself s) in
     record {
@@ -182,7 +172,7 @@ frame-rate-law s ps qs r =
 abbrev carriageReturn : Pair
 carriageReturn = pair 0x94 0xAD
 
--- a doubled carriage return and text, with padding put in before, behind the two copies and behind the text
+-- a doubled carriage return and text, with padding put in before them, after the two copies and after the text
 abbrev hi : Pair
 hi = pair 0xC8 0xE9
 

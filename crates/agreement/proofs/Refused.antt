@@ -1,4 +1,4 @@
--- The set refuses what the line spoiled, by number 1, and nothing else.
+-- The receiver refuses what the line corrupted, by number 1, and nothing else.
 -- Assumes nothing.
 use mathlib.Core.Bool.{Bool, true, false, cond}
 use mathlib.Core.List.{List, [], _∷_, map}
@@ -13,10 +13,10 @@ use Rattle.receiver.proofs.Step.{even-is-refused-1, odd-is-not-refused}
 use Rattle.receiver.specs.Reading.{answers}
 use Rattle.receiver.specs.Receiver.{step}
 use Rattle.receiver.specs.declared.state.Cea608State.{Cea608State}
-use Rattle.sender.proofs.OneByOne.{same-itself, spoiled-is-another}
-use Rattle.sender.specs.Agreement.{Carried, refusal, samePair, spoiledPlaces}
-use Rattle.sender.specs.Agreement as line
-use Rattle.sender.specs.OneByOne.{AllOdd}
+use Rattle.agreement.proofs.OneByOne.{same-itself, spoiled-is-another}
+use Rattle.agreement.specs.Agreement.{Carried, refusal, samePair, spoiledPlaces}
+use Rattle.agreement.specs.Agreement as line
+use Rattle.agreement.specs.OneByOne.{AllOdd}
 
 heard : (o : Outcome (Option Cea608)) → ((n : ℕ) → o ≡ refused n → ⊥) → refusal o ≡ 0
 heard (answer e) h = refl
@@ -28,7 +28,7 @@ arrived s p odd =
     heard (step s p .0) (λ (n : ℕ) (e : step s p .0 ≡ refused n). odd-is-not-refused s p n odd e)
     ∙ sym (ap (λ (t : Bool). cond t 0 1) (same-itself p))
 
--- and one that parity shows is another than was sent, and is refused
+-- and one that fails parity is not the one that was sent, and is refused
 hit : (s : Cea608State) (p q : Pair) → isOddPair p ≡ true → isOddPair q ≡ false → refusal (step s q .0) ≡ cond (samePair p q) 0 1
 hit s p q odd even = rw (even-is-refused-1 s q even, spoiled-is-another p q odd even) refl
 

@@ -14,10 +14,10 @@ use Rattle.code.proofs.Both.{both-true}
 use Rattle.code.specs.Read.{isOddPair}
 use Rattle.code.specs.Write.{pair}
 use Rattle.code.specs.declared.pair.Pair.{Pair}
-use Rattle.sender.specs.Agreement.{Carried, Line, OneHit, hits, samePair, spoiledPlaces}
-use Rattle.sender.specs.Agreement as line
-use Rattle.sender.specs.OneByOne.{AllOdd, OneByOne, goesOn, wasSpoiled}
-use Rattle.sender.specs.OneByOne as one
+use Rattle.agreement.specs.Agreement.{Carried, Line, OneHit, hits, samePair, spoiledPlaces}
+use Rattle.agreement.specs.Agreement as line
+use Rattle.agreement.specs.OneByOne.{AllOdd, OneByOne, goesOn, wasSpoiled}
+use Rattle.agreement.specs.OneByOne as one
 
 pub same-itself : (p : Pair) → samePair p p ≡ true
 same-itself p = rw (eq-eqb (p .0) (p .0) refl, eq-eqb (p .1) (p .1) refl)
@@ -27,7 +27,7 @@ same-is-equal p q e =
     let b = both-true (eqb (p .0) (q .0)) (eqb (p .1) (q .1)) e in
     ap₂ pair (eqb-true (p .0) (q .0) (b .0)) (eqb-true (p .1) (q .1) (b .1))
 
--- a pair that parity shows is another than was sent
+-- a pair that fails parity is not the one that was sent
 by-parity : (p q : Pair) (t : Bool) → samePair p q ≡ t → isOddPair p ≡ true → isOddPair q ≡ false → t ≡ false
 by-parity p q false e odd even = refl
 by-parity p q true e odd even = absurd (true≢false (sym odd ∙ ap isOddPair (same-is-equal p q e) ∙ even))
@@ -35,7 +35,7 @@ by-parity p q true e odd even = absurd (true≢false (sym odd ∙ ap isOddPair (
 pub spoiled-is-another : (p q : Pair) → isOddPair p ≡ true → isOddPair q ≡ false → samePair p q ≡ false
 spoiled-is-another p q odd even = by-parity p q (samePair p q) refl odd even
 
--- no copy is spoiled while a stretch of which one was goes on
+-- once a copy of a stretch is corrupted, no other is
 abbrev Spared : Option Pair → List Pair → List Pair → Type 0
 Spared none sent arrived = Unit
 Spared (some p) sent arrived =
@@ -46,7 +46,7 @@ module _ (p q : Pair) (ps qs : List Pair) where
   further : OneHit (p ∷ ps) (q ∷ qs) → OneHit ps qs
   further all before n x behind e = all (p ∷ before) n x behind (ap (λ (l : List Pair). p ∷ l) e)
 
-  -- a copy that arrived was not spoiled, and one that parity shows was
+  -- the rest of the stretch, past a copy that arrived and past a corrupted one
   spared-on : (h : Option Pair) (t : Bool) → wasSpoiled h p ≡ t → samePair p q ≡ true → Spared h (p ∷ ps) (q ∷ qs) → Spared (cond t h none) ps qs
   spared-on none true w same spared = tt
   spared-on none false w same spared = tt
@@ -62,7 +62,7 @@ module _ (p q : Pair) (ps qs : List Pair) where
       let here = ap (λ (t : Bool). cond {A = ℕ} t 0 1) (spoiled-is-another p q odd even) in
       omega (arith, told, here)
 
-  -- the first copy of a stretch of which one was spoiled is not
+  -- no second copy of a stretch is corrupted
   not-twice : (h : Option Pair) (t : Bool) → wasSpoiled h p ≡ t → isOddPair p ≡ true → isOddPair q ≡ false → Spared h (p ∷ ps) (q ∷ qs) → t ≡ false
   not-twice h false w odd even spared = refl
   not-twice none true w odd even spared = absurd (true≢false (sym w))
@@ -90,14 +90,14 @@ carried h sent arrived one.ends = line.ends
 carried h sent arrived (one.arrives {ps = ps} {qs = qs} rest) = line.arrives (carried _ ps qs rest)
 carried h sent arrived (one.is-spoiled {ps = ps} {qs = qs} command w even rest) = line.is-spoiled command even (carried _ ps qs rest)
 
--- what stands in front of one list and of another that is the same, and what is behind it
+-- equal lists have equal heads and equal tails
 in-front : (x y : Pair) (xs ys : List Pair) → x ∷ xs ≡ y ∷ ys → x ≡ y
 in-front x y xs ys e = ap (λ (l : List Pair). getD l 0 x) e
 
 behind : (x y : Pair) (xs ys : List Pair) → x ∷ xs ≡ y ∷ ys → xs ≡ ys
 behind x y xs ys e = ap (drop 1) e
 
--- of n copies at the front at most one is spoiled, and none where one was before
+-- of n copies at the front at most one is corrupted, and none where one was before
 abbrev AtFront : Bool → ℕ → Type 0
 AtFront true n = n ≡ 0
 AtFront false n = n ≤ 1
@@ -153,7 +153,7 @@ one-by-one-is-a-line sent arrived odd passed = record {
   stretches = λ (before : List Pair) (n : ℕ) (p : Pair) (rest : List Pair). one-hit before none sent arrived odd passed n p rest;
 }
 
--- a line that spoils nothing is one
+-- a line that corrupts nothing is one
 clean : (h : Option Pair) (sent : List Pair) → OneByOne h sent sent
 clean h [] = one.ends
 clean h (p ∷ ps) = one.arrives (clean (goesOn h p) ps)

@@ -7,7 +7,7 @@ use Rattle.code.specs.Read.{readPair}
 use Rattle.code.specs.Write.{inDomain, writeCode}
 use Rattle.queue.specs.Queue.{admit, pairOf, pop}
 use Rattle.queue.specs.Ring.{popRing, pushRing, wellFormed}
-use Rattle.sender.specs.TriedByHand.{pairsTried, try, whatTheyGive}
+use Rattle.agreement.specs.TriedByHand.{pairsTried, try, whatTheyGive}
 
 pub tried-by-hand : map try pairsTried ≡ whatTheyGive
 unfolding readPair ones onesIn writeCode inDomain admit pairOf pop pushRing popRing wellFormed

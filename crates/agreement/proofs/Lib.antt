@@ -1,0 +1,10 @@
+pub mod Agreement
+pub mod AnyPadding
+pub mod DecodedOnce
+pub mod Doubled
+pub mod Drains
+pub mod FrameRate
+pub mod Limits
+pub mod OneByOne
+pub mod Refused
+pub mod TriedByHand

@@ -1,0 +1,6 @@
+pub mod Agreement
+pub mod AnyPadding
+pub mod Doubled
+pub mod FrameRate
+pub mod OneByOne
+pub mod TriedByHand
