@@ -1,50 +1,95 @@
-// Lists the pairs on standard input, one line an event, in the format of docs/LISTING.md.
-// A read or a write that fails is said on standard error, and ends the listing with no last line.
+// Lists byte pairs, one line an event (docs/LISTING.md): of each FILE, or of standard input.
+//
+// Where a file cannot be opened, or a read or a write fails, standard error says so and the program stops. The listing that
+// it was in then has no last line, and no later file is listed.
 ghost use Prim.Native.Nat.{_<_};
 ghost use lib.ListN.{length};
+use libc::STDERR_FILENO;
 use libc::STDIN_FILENO;
 use libc::STDOUT_FILENO;
 use lines::Listing;
 
-// A proved loop has to end, and nothing says that a stream does. So the turns are counted down, from a number that no run
-// uses up.
 fn main() {
     let mut input = io::large_buffer();
     let mut output = io::large_buffer();
-    let mut listing = Listing::new();
-    let mut turns = u64::MAX;
-    let mut more = true;
-    while turns > 0 && more {
-        let done = list_block(&mut input, &mut output, listing);
-        more = done.more;
-        let next = done.listing;
-        listing = next;
-        turns -= 1;
+    let words = os::arg_count();
+    if words < 2 {
+        list_stream(STDIN_FILENO, b"standard input", &mut input, &mut output);
+        return;
+    }
+    let mut word: usize = 1;
+    let mut whole = true;
+    while word < words && whole {
+        whole = list_file(word, &mut input, &mut output);
+        word += 1;
     }
 }
 
-// The listing after a block, and whether there is more to read.
+// Lists the file that an argument names; `-` is standard input. Answers whether its listing is whole.
+fn list_file(word: usize, input: &mut [u8], output: &mut [u8]) -> bool
+    requires { ⌜ 0 < length (now output) ⌝ }
+{
+    let mut name = io::buffer();
+    let len = os::arg(word, &mut name);
+    if os::errno() != 0 {
+        fail(b"the name of a file");
+        return false;
+    }
+    if len == 1 && name[0] == b'-' {
+        return list_stream(STDIN_FILENO, b"standard input", input, output);
+    }
+    let file = os::open_read(&name[..len]);
+    if file < 0 {
+        fail(&name[..len]);
+        return false;
+    }
+    let whole = list_stream(file, &name[..len], input, output);
+    libc::close(file);
+    whole
+}
+
+// Lists all that a descriptor has. A proved loop has to end, and nothing says that a stream does. So the turns are counted
+// down, from a number that no run uses up.
+fn list_stream(from: i32, name: &[u8], input: &mut [u8], output: &mut [u8]) -> bool
+    requires { ⌜ 0 < length (now output) ⌝ }
+{
+    let mut listing = Listing::new();
+    let mut turns = u64::MAX;
+    while turns > 0 {
+        let done = list_block(from, name, input, output, listing);
+        if done.failed {
+            return false;
+        }
+        let next = done.listing;
+        listing = next;
+        if listing.is_done() {
+            return true;
+        }
+        turns -= 1;
+    }
+    false
+}
+
+// The listing after a block, or that a read or a write failed.
 struct Done {
-    more: bool,
+    failed: bool,
     listing: Listing,
 }
 
 // Reads what there is, as much as there is room for, and writes its lines, so that those of a live stream do not wait. No
-// bytes are the end of the stream; a read that a signal broke off is made again.
-fn list_block(input: &mut [u8], output: &mut [u8], begun: Listing) -> Done
+// bytes are the end of the stream; a read that a signal interrupted is made again.
+fn list_block(from: i32, name: &[u8], input: &mut [u8], output: &mut [u8], begun: Listing) -> Done
     requires { ⌜ 0 < length (now output) ⌝ }
 {
-    let got = libc::read(STDIN_FILENO, input);
+    let got = libc::read(from, input);
     if got < 0 {
-        if os::errno() == libc::EINTR {
-            return Done {
-                more: true,
-                listing: begun,
-            };
+        let mut failed = false;
+        if os::errno() != libc::EINTR {
+            fail(name);
+            failed = true;
         }
-        os::fail(b"listing: standard input");
         return Done {
-            more: false,
+            failed: failed,
             listing: begun,
         };
     }
@@ -67,9 +112,9 @@ fn write_lines(input: &[u8], output: &mut [u8], begun: Listing) -> Done
         let written = progress.written;
         let next = progress.listing;
         if !io::write_all(STDOUT_FILENO, &output[..written]) {
-            os::fail(b"listing: standard output");
+            fail(b"standard output");
             return Done {
-                more: false,
+                failed: true,
                 listing: next,
             };
         }
@@ -80,7 +125,13 @@ fn write_lines(input: &[u8], output: &mut [u8], begun: Listing) -> Done
         }
     }
     Done {
-        more: !listing.is_done(),
+        failed: false,
         listing: listing,
     }
+}
+
+// Says on standard error what failed, and why.
+fn fail(what: &[u8]) {
+    io::write_all(STDERR_FILENO, b"listing: ");
+    os::fail(what);
 }

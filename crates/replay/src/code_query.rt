@@ -24,13 +24,10 @@ use code::parity;
 
 pub(crate) fn answer(asked: [u8; 16]) -> [u8; 16] {
     let kind = asked[0];
+    if kind < 0x07 {
+        return of_code(asked);
+    }
     match kind {
-        0x01 => read(asked[1], asked[2]),
-        0x02 => write(from_bytes::code(asked)),
-        0x03 => character(from_bytes::code(asked)),
-        0x04 => one((from_bytes::code(asked).byte_len() % 256) as u8),
-        0x05 => one(to_bytes::flag(from_bytes::code(asked).needs_backspace())),
-        0x06 => from_char(asked),
         0x07 => mid_row(MidRow::new_color(from_bytes::color(asked[1]), asked[2] == 1)),
         0x08 => mid_row(MidRow::new_italics(asked[1] == 1)),
         0x09 => from_indent(asked[1]),
@@ -41,6 +38,20 @@ pub(crate) fn answer(asked: [u8; 16]) -> [u8; 16] {
         0x0E => ids(),
         0x0F => byte_parity(asked[1]),
         0x10 => domain(from_bytes::code(asked)),
+        _ => not_a_query(),
+    }
+}
+
+// The queries of a pair, a code and a character.
+fn of_code(asked: [u8; 16]) -> [u8; 16] {
+    let kind = asked[0];
+    match kind {
+        0x01 => read(asked[1], asked[2]),
+        0x02 => write(from_bytes::code(asked)),
+        0x03 => character(from_bytes::code(asked)),
+        0x04 => one((from_bytes::code(asked).byte_len() % 256) as u8),
+        0x05 => one(to_bytes::flag(from_bytes::code(asked).needs_backspace())),
+        0x06 => from_char(asked),
         _ => not_a_query(),
     }
 }

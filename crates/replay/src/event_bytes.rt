@@ -1,4 +1,4 @@
-// Events as the thirteen bytes of docs/REPLAY.md, both ways.
+// Events as the thirteen bytes of docs/TESTING.md, both ways.
 ghost use Prim.Native.Nat.{_<_};
 use crate::from_bytes;
 use crate::to_bytes;

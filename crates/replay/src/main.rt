@@ -1,4 +1,4 @@
-// Answers queries in the format of docs/REPLAY.md, so that what is proved can be compared with the oracle by running.
+// Answers queries (docs/TESTING.md), so that what is proved can be compared with the Rust crate by running.
 mod code_query;
 mod event_bytes;
 mod event_query;
@@ -46,10 +46,7 @@ fn answer_block(input: &mut [u8], output: &mut [u8], begun: State) -> Done
     let mut state = begun;
     let mut at: usize = 0;
     while at < whole {
-        let answered = query::answer(asked_at(input, at), state);
-        let bytes = answered.bytes;
-        let next = answered.state;
-        put_answer(output, at, bytes);
+        let next = answer_at(input, output, at, state);
         state = next;
         at += 16;
     }
@@ -61,6 +58,17 @@ fn answer_block(input: &mut [u8], output: &mut [u8], begun: State) -> Done
         more: more,
         state: state,
     }
+}
+
+// Answers the query at a place, and gives the state after it.
+fn answer_at(input: &[u8], output: &mut [u8], at: usize, state: State) -> State
+    requires { ⌜ (at + 16 ≤ length (now input)) × (at + 16 ≤ length (now output)) ⌝ }
+{
+    let answered = query::answer(asked_at(input, at), state);
+    let bytes = answered.bytes;
+    let next = answered.state;
+    put_answer(output, at, bytes);
+    next
 }
 
 // The query at a place of the input.

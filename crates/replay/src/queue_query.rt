@@ -24,23 +24,46 @@ pub(crate) fn asks_queue(kind: u8) -> bool {
 
 pub(crate) fn answer(queue: Queue, asked: [u8; 16]) -> QueueAnswered {
     let kind = asked[0];
+    if kind < 0x34 {
+        return call(queue, asked);
+    }
+    if kind < 0x39 {
+        return told([0u8; 16], set(queue, asked));
+    }
+    told(get(queue, asked), queue)
+}
+
+// A call of the queue.
+fn call(queue: Queue, asked: [u8; 16]) -> QueueAnswered {
+    let kind = asked[0];
     match kind {
         0x30 => push(queue, from_bytes::code(asked)),
         0x31 => pop(queue),
         0x32 => n_codes(queue),
-        0x33 => told([0u8; 16], queue.reset()),
-        0x34 => told([0u8; 16], Queue::new()),
-        0x35 => told([0u8; 16], with_start(queue, number(asked))),
-        0x36 => told([0u8; 16], with_waiting(queue, number(asked))),
-        0x37 => told(
-            [0u8; 16],
-            with_slot(queue, (asked[7] % 64) as usize, from_bytes::code(asked)),
-        ),
-        0x38 => told([0u8; 16], with_held(queue, held(asked))),
-        0x39 => told(numbers(queue), queue),
-        0x3A => told(slot(queue, (asked[1] % 64) as usize), queue),
-        0x3B => told(held_code(queue), queue),
-        _ => told(not_a_query(), queue),
+        _ => told([0u8; 16], queue.reset()),
+    }
+}
+
+// The queue with a piece of it set, or anew.
+fn set(queue: Queue, asked: [u8; 16]) -> Queue {
+    let kind = asked[0];
+    match kind {
+        0x34 => Queue::new(),
+        0x35 => with_start(queue, number(asked)),
+        0x36 => with_waiting(queue, number(asked)),
+        0x37 => with_slot(queue, (asked[7] % 64) as usize, from_bytes::code(asked)),
+        _ => with_held(queue, held(asked)),
+    }
+}
+
+// A piece of the queue.
+fn get(queue: Queue, asked: [u8; 16]) -> [u8; 16] {
+    let kind = asked[0];
+    match kind {
+        0x39 => numbers(queue),
+        0x3A => slot(queue, (asked[1] % 64) as usize),
+        0x3B => held_code(queue),
+        _ => not_a_query(),
     }
 }
 
@@ -134,7 +157,7 @@ pub(crate) fn four(a: u8, b: u8, c: u8, d: u8) -> usize
     (a as usize) + (b as usize) * 256 + (c as usize) * 65536 + (d as usize) * 16777216
 }
 
-// The number in the eight bytes behind the kind.
+// The number in the eight bytes after the kind.
 fn number(asked: [u8; 16]) -> usize {
     let low = four(asked[1], asked[2], asked[3], asked[4]);
     let high = four(asked[5], asked[6], asked[7], asked[8]);

@@ -30,12 +30,28 @@ pub(crate) fn answer(sender: Sender, asked: [u8; 16]) -> SenderAnswered {
         0x41 => send(sender),
         0x42 => n_codes(sender),
         0x43 => is_idle(sender),
-        0x44 => told([0u8; 16], sender.reset()),
-        0x45 => told([0u8; 16], Sender::new()),
-        0x46 => told([0u8; 16], with_owed(sender, owed(asked))),
-        0x47 => told(owed_pair(sender), sender),
         0x48 => drain(sender, asked),
-        _ => told(not_a_query(), sender),
+        _ => told(get(sender, kind), set(sender, asked)),
+    }
+}
+
+// The sender with its owed pair set, or anew, or as it is.
+fn set(sender: Sender, asked: [u8; 16]) -> Sender {
+    let kind = asked[0];
+    match kind {
+        0x44 => sender.reset(),
+        0x45 => Sender::new(),
+        0x46 => with_owed(sender, owed(asked)),
+        _ => sender,
+    }
+}
+
+// The owed pair where it is asked for, and nothing where the sender is set.
+fn get(sender: Sender, kind: u8) -> [u8; 16] {
+    match kind {
+        0x44..=0x46 => [0u8; 16],
+        0x47 => owed_pair(sender),
+        _ => not_a_query(),
     }
 }
 
@@ -87,14 +103,18 @@ fn is_idle(sender: Sender) -> SenderAnswered {
     let idleness = sender.is_idle();
     let next = idleness.sender;
     let answer = idleness.answer;
+    told(idle_bytes(answer), next)
+}
+
+fn idle_bytes(answer: IdleAnswer) -> [u8; 16] {
     let mut out = [0u8; 16];
     match answer {
         IdleAnswer::Idle => {
             out[1] = 1;
-            told(out, next)
+            out
         }
-        IdleAnswer::Busy => told(out, next),
-        IdleAnswer::IllFormed => told(queue_query::refusal(12), next),
+        IdleAnswer::Busy => out,
+        IdleAnswer::IllFormed => queue_query::refusal(12),
     }
 }
 
@@ -136,9 +156,12 @@ fn output_length(asked: [u8; 16]) -> usize
 }
 
 // Seven bytes as a number, the lowest first, with the seventh once more as the eighth: the largest number is there too.
-fn seven(a: u8, b: u8, c: u8, d: u8, e: u8, f: u8, g: u8) -> usize {
-    let low = queue_query::four(a, b, c, d);
-    let high = queue_query::four(e, f, g, g);
+fn seven(asked: [u8; 16], at: usize) -> usize
+    requires { ⌜ at ≤ 9 ⌝ }
+{
+    let last = asked[at + 6];
+    let low = queue_query::four(asked[at], asked[at + 1], asked[at + 2], asked[at + 3]);
+    let high = queue_query::four(asked[at + 4], asked[at + 5], last, last);
     low + high * 4294967296
 }
 
@@ -163,32 +186,20 @@ fn bytes_before() -> [u8; 14] {
 }
 
 fn drain(sender: Sender, asked: [u8; 16]) -> SenderAnswered {
-    let start = seven(
-        asked[2],
-        asked[3],
-        asked[4],
-        asked[5],
-        asked[6],
-        asked[7],
-        asked[8],
-    );
-    let limit = seven(
-        asked[9],
-        asked[10],
-        asked[11],
-        asked[12],
-        asked[13],
-        asked[14],
-        asked[15],
-    );
     let mut bytes = bytes_before();
-    let drained = drain_into(sender, &mut bytes, output_length(asked), start, limit);
+    let drained = drain_into(
+        sender,
+        &mut bytes,
+        output_length(asked),
+        seven(asked, 2),
+        seven(asked, 9),
+    );
     let answer = drained.answer;
     let next = drained.sender;
     told(drain_bytes(answer, bytes), next)
 }
 
-// Lends the drain the front of the bytes. Those behind are shown as well, and stay.
+// Lends the drain the first of the bytes. The others are shown as well, and stay.
 fn drain_into(sender: Sender, bytes: &mut [u8], lent: usize, start: usize, limit: usize) -> Drained
     requires { ⌜ lent ≤ length (now bytes) ⌝ }
 {

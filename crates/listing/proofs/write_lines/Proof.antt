@@ -79,9 +79,6 @@ loop-again c =
       omega (arith, same, loop .inv .2),
     )
 
-is-done-requires : tie.Need-is-done-requires Inv-loop μ-loop
-is-done-requires c κs = search needs
-
 same-length-2 : tie.Need-same-length-2 Inv-loop μ-loop
 same-length-2 c = search needs
 
@@ -109,6 +106,5 @@ write-lines-spec =
     add-at
     loop-less
     loop-again
-    is-done-requires
     same-length-2
     returns-2)
