@@ -1,19 +1,29 @@
-"""Builds what is timed, ours and the crate's: x86-64 programs, which the toolchain's emulator runs where the processor is
-no x86-64."""
+"""Builds what is timed, ours and the crate's, for this very processor.
+
+Ours is proved by rt, which builds it for x86-64 alone. Here the same sources are compiled without a proof: of the program
+behind `rt try` the module is kept that it hands to the compiler, and compiled once more. Only times are taken from it."""
 import os
 import pathlib
 import platform
-import shutil
 import subprocess
-
-from timing.proofs import proofs
+import sys
 
 HERE = pathlib.Path(__file__).resolve().parent
 ROOT = HERE.parent.parent
-# A repository of its own, so that no crate of this one is there for the timing alone. Its program's source is kept under
-# another ending, since a source that no crate of this one has would be refused here.
-OURS = ROOT / "target/timing"
-CALLED = ("code", "event", "receiver", "queue", "sender")
+BUILT = ROOT / "built/timing"
+LAYERS = ("code", "event", "receiver", "queue", "sender")
+
+# A compiler in the toolchain's place, which keeps each module that is compiled with optimisation.
+KEEPS = """#!/bin/sh
+case " $* " in *" -O3 "*)
+    for word in "$@"; do case $word in *.ll | *.bc) cp "$word" '{module}' ;; esac; done ;;
+esac
+exec '{clang}' "$@"
+"""
+
+
+def output_of(words):
+    return subprocess.run(words, stdout=subprocess.PIPE, check=True, text=True).stdout.strip()
 
 
 def write(path, text):
@@ -21,50 +31,75 @@ def write(path, text):
     path.write_text(text)
 
 
-def prove(name, root):
-    subprocess.run(["rt", "check", name], cwd=root, check=True, stdout=subprocess.DEVNULL)
+def keeping(toolchain, module):
+    """A folder like the toolchain's, with the compiler that keeps the module."""
+    folder = BUILT / "toolchain"
+    (folder / "bin").mkdir(parents=True, exist_ok=True)
+    for part in ("lib", *(f"bin/{tool.name}" for tool in (toolchain / "bin").iterdir() if tool.name != "clang")):
+        (folder / part).unlink(missing_ok=True)
+        (folder / part).symlink_to(toolchain / part)
+    write(folder / "bin/clang", KEEPS.format(module=module, clang=toolchain / "bin/clang"))
+    (folder / "bin/clang").chmod(0o755)
+    return folder
 
 
-def copy_crates():
-    """This tree's crates. What is proved here is not proved again there, nor there twice."""
-    for made_anew in ("crates", "target/rlib"):
-        shutil.rmtree(OURS / made_anew, ignore_errors=True)
-    for name in CALLED:
-        shutil.copytree(ROOT / "crates" / name, OURS / "crates" / name)
-    for kept in ("rlib", "stamp"):
-        shutil.copytree(ROOT / "target" / kept, OURS / "target" / kept, dirs_exist_ok=True)
-    listed = (ROOT / "crates.txt").read_text().splitlines()
-    lines = [line for line in listed if line.split(":")[0] in CALLED]
-    write(OURS / "crates.txt", "\n".join([*lines, f"calls: {' '.join(CALLED)} io libc"]) + "\n")
+def build_ours(name, main, libraries):
+    """Our program of a source, over libraries of this repository and of the kit."""
+    toolchain = pathlib.Path(output_of([ROOT / "tools/toolchain"]))
+    home, module = toolchain.parent.parent.parent, BUILT / f"{name}.bc"
+    BUILT.mkdir(parents=True, exist_ok=True)
+    module.unlink(missing_ok=True)
+    words = [toolchain.parent / "bin/rattle-cases", "--toolchain", keeping(toolchain, module), "--stdin", os.devnull]
+    words += ["--link", home / "lib/libos_c.a"] if "os" in libraries else []
+    words += [main, "--crate-name", name]
+    for library in ("std", *libraries):
+        own = ROOT / "crates" / library / "src/lib.rt"
+        words += ["--lib", f"{library}={own if own.is_file() else home / 'libs' / library / 'src/lib.rt'}"]
+    said = subprocess.run(words, stdout=subprocess.PIPE, stderr=subprocess.STDOUT, text=True).stdout
+    if not module.is_file():
+        sys.exit(f"bench: {name} is not compiled:\n{said}")
+    target = f"--target={platform.machine()}-linux-gnu"
+    compiled = ["-O3", "-w", "-c", "-fPIC", "-x", "ir", module, "-o", module.with_suffix(".o")]
+    # It says of each function that it does not know the x86-64 that the module names.
+    done = subprocess.run([toolchain / "bin/clang", target, *compiled], stderr=subprocess.PIPE, text=True)
+    if done.returncode:
+        sys.exit(f"bench: {name} is not compiled for this processor:\n{done.stderr}")
+    program = BUILT / name
+    subprocess.run(["gcc", "-O2", module.with_suffix(".o"), HERE / "os.c", "-o", program], check=True)
+    return program
 
 
-def build_ours():
-    """Proves and builds our program, and gives the words that run it."""
-    prove("sender", ROOT)
-    copy_crates()
-    program = OURS / "crates/calls"
-    write(program / "src/main.rt", (HERE / "calls.rattle").read_text())
-    write(program / "stdin", "\0\0")
-    write(program / "stdout", "0")
-    for function, text in proofs().items():
-        write(program / "proofs" / function / "Proof.antt", text)
-    prove("calls", OURS)
-    return words_of(OURS, "calls")
+MANIFEST = """[package]
+name = "timing"
+version = "0.0.0"
+edition = "2021"
 
+[[bin]]
+name = "calls"
+path = '{here}/calls.rs'
 
-def words_of(root, name):
-    """The words that run a proved program, as ./run has them, the emulator's aside."""
-    library = toolchain() / "lib"
-    return [library / "ld-linux-x86-64.so.2", "--library-path", library, root / "target/bin" / name]
+[[bin]]
+name = "waiting"
+path = '{here}/waiting.rs'
 
+[[bin]]
+name = "plain"
+path = '{here}/plain.rs'
 
-def toolchain():
-    home = os.environ.get("RATTLE_HOME") or pathlib.Path(shutil.which("rt")).resolve().parent.parent
-    return pathlib.Path(home) / "on" / platform.machine() / "toolchain"
+[dependencies]
+cea608-types = {{ path = '../../oracle/cea608-types' }}
+
+[workspace]
+"""
 
 
 def build_crate():
-    """Builds the crate's programs. Gives the emulator's words, or none, and the folder that they lie in."""
-    built = subprocess.run([ROOT / "tools/build-timing"], stdout=subprocess.PIPE, check=True, text=True)
-    *emulator, folder = built.stdout.splitlines()
-    return emulator, pathlib.Path(folder)
+    """The oracle, and the folder of the crate's programs, optimised and without debug assertions."""
+    oracle = output_of([ROOT / "tools/build-oracle"])
+    write(BUILT / "crate/Cargo.toml", MANIFEST.format(here=HERE))
+    registry = output_of(["sh", "-c", "dpkg -L librust-log-dev | sed -n 's|/log-[^/]*/Cargo\\.toml$||p'"])
+    debian = ["source.crates-io.replace-with='debian'", f"source.debian.directory='{registry}'"]
+    configured = [word for setting in debian for word in ("--config", setting)]
+    build = ["build", "--release", "--offline", "--quiet", "--target-dir", "cargo"]
+    subprocess.run(["cargo", *configured, *build], cwd=BUILT / "crate", check=True)
+    return oracle, BUILT / "crate/cargo/release"

@@ -1,8 +1,5 @@
-//! Makes one call of the crate for each pair of the input, over and over, as tools/timing/calls.rattle makes ours. The
-//! first byte of the input says which call, the second how often all is gone through.
-//!
-//! It begins at the C library's `main`, as tools/oracle/src/bench.rs does and for the same reason.
-#![no_main]
+//! Makes one call of the crate for each pair of the input, over and over, as calls.rattle makes ours. The first byte of the
+//! input says which call, the second how often all of the input is gone through.
 
 use cea608_types::tables::{Channel, Code};
 use cea608_types::{Cea608State, Cea608Writer};
@@ -11,12 +8,11 @@ use std::io::{stdin, Read};
 
 type Pairs = [[u8; 2]];
 
-#[no_mangle]
-pub extern "C" fn main() -> i32 {
+fn main() {
     let mut input = Vec::new();
-    if stdin().read_to_end(&mut input).is_err() {
-        return 1;
-    }
+    stdin()
+        .read_to_end(&mut input)
+        .expect("the input can be read");
     let (asked, turns) = (input[0], input[1]);
     let pairs: Vec<[u8; 2]> = input[2..]
         .chunks_exact(2)
@@ -33,7 +29,6 @@ pub extern "C" fn main() -> i32 {
     for _ in 0..turns {
         pass(&pairs);
     }
-    0
 }
 
 fn pass_nothing(pairs: &Pairs) {

@@ -1,66 +1,37 @@
-"""What the program `listing` costs a pair beside a plain listing in Rust over the crate, tools/oracle/src/listing.rs, on
-the same stream: of ten pairs six are text, two are padding and two are a command and its copy. A run is the whole
-program, from a file to a file."""
+"""What the program `listing` costs a pair beside a plain listing in Rust over the crate, on the same stream: of ten pairs
+six are text, two are padding and two are a command and its copy. A run is the whole program, from a file to a file."""
 import subprocess
 import sys
 
 from timing import measure
-from timing.build import ROOT, prove, words_of
+from timing.build import BUILT, ROOT, build_ours
 
-HERE = ROOT / "target/timing/listing"
 PAIRS = 2_000_000
-COUNTED = 2_048
 RUNS = 7
 
 
-def make(oracle, pairs):
-    stream = HERE / f"{pairs}.pairs"
+def stream_of(oracle, pairs):
+    stream = BUILT / f"{pairs}.pairs"
     subprocess.run([oracle, "mix", str(pairs), stream], check=True, stdout=subprocess.DEVNULL)
     return stream
 
 
-def run(whose, words, stream):
-    with open(HERE / f"{whose}.text", "wb") as text:
-        return measure.seconds(words, stream, text)
+def run(whose, program, stream):
+    with open(BUILT / f"{whose}.text", "wb") as text:
+        return measure.seconds(program, stream, text)
 
 
-def compare(programs):
-    """No time is told where the texts differ."""
-    texts = [HERE / f"{whose}.text" for whose in programs]
-    if len({text.read_bytes() for text in texts}) > 1:
-        sys.exit(f"the texts differ, and no time is told: {texts}")
-
-
-def nanoseconds(programs, streams):
-    """Of each program a pair's, without what a run over no pairs takes."""
+def costs(oracle, folder):
+    """A pair's nanoseconds, ours and the crate's, without what a run over no pairs takes."""
+    ours = build_ours("listing", ROOT / "crates/listing/src/main.rt", ("lines", "receiver", "event", "code", "io", "libc", "os"))
+    programs = {"ours": ours, "crate": folder / "plain"}
+    streams = {pairs: stream_of(oracle, pairs) for pairs in (0, PAIRS)}
     runs = {
-        (whose, pairs): lambda whose=whose, words=words, stream=stream: run(whose, words, stream)
+        (whose, pairs): lambda whose=whose, program=program, stream=stream: run(whose, program, stream)
         for pairs, stream in streams.items()
-        for whose, words in programs.items()
+        for whose, program in programs.items()
     }
     least = measure.shortest(runs, RUNS)
-    compare(programs)
+    if len({(BUILT / f"{whose}.text").read_bytes() for whose in programs}) > 1:
+        sys.exit("bench: the two listings differ, and no time is given")
     return [(least[whose, PAIRS] - least[whose, 0]) / PAIRS * 1e9 for whose in programs]
-
-
-def instructions(emulator, programs, oracle):
-    """Of each program a pair's, without what a run over no pairs takes."""
-    of_none, of_some = make(oracle, 0), make(oracle, COUNTED)
-    for words in programs.values():
-        yield (measure.instructions(emulator, words, of_some) - measure.instructions(emulator, words, of_none)) / COUNTED
-
-
-def build(folder):
-    """The oracle, which makes the streams, and the words of ours and of the crate's, which lies in a folder."""
-    built = subprocess.run([ROOT / "tools/build-oracle"], stdout=subprocess.PIPE, check=True, text=True)
-    prove("listing", ROOT)
-    HERE.mkdir(parents=True, exist_ok=True)
-    return built.stdout.strip(), {"ours": words_of(ROOT, "listing"), "crate": [folder / "listing"]}
-
-
-def costs(emulator, oracle, programs):
-    """The times of ours and of the crate's, and their instructions where they are emulated."""
-    timed = {whose: [*emulator, *words] for whose, words in programs.items()}
-    yield nanoseconds(timed, {pairs: make(oracle, pairs) for pairs in (0, PAIRS)})
-    if emulator:
-        yield instructions(emulator, programs, oracle)

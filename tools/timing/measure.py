@@ -1,4 +1,4 @@
-"""The processor's time of a run, and the instructions of one that is emulated."""
+"""The processor's time of a run."""
 import resource
 import subprocess
 
@@ -11,11 +11,11 @@ def processor_seconds():
     return used.ru_utime + used.ru_stime
 
 
-def seconds(words, asked, told=subprocess.DEVNULL):
-    """One run's, from a file to another. The environment is empty, as ./run has it."""
+def seconds(program, asked, answered=subprocess.DEVNULL):
+    """One run's, from a file to another."""
     before = processor_seconds()
-    with open(asked, "rb") as input:
-        subprocess.run(words, env={}, stdin=input, stdout=told, check=True)
+    with open(asked, "rb") as given:
+        subprocess.run([program], env={}, stdin=given, stdout=answered, check=True)
     return processor_seconds() - before
 
 
@@ -28,12 +28,3 @@ def shortest(runs, times=RUNS):
             spent = run()
             best[key] = min(spent, best.get(key, spent))
     return best
-
-
-def instructions(emulator, words, asked):
-    """The emulator writes a line for each to standard error."""
-    options = ["-one-insn-per-tb", "-d", "exec,nochain"]
-    pipes = {"stdout": subprocess.DEVNULL, "stderr": subprocess.PIPE}
-    with open(asked, "rb") as input:
-        run = subprocess.Popen([*emulator, *options, *words], env={}, stdin=input, **pipes)
-        return sum(block.count(b"\n") for block in iter(lambda: run.stderr.read(1 << 20), b""))

@@ -1,12 +1,12 @@
 //! Demand 3 of the letter, as a run. Codes are pushed into a fresh sender and pairs are sent in
 //! random order until it is idle; a line spoils pairs as the demand allows, puts padding in and takes
 //! padding out; a fresh receiver decodes what arrives. `replay` is asked every push, send and decode.
-//! That what is heard agrees with what was queued is checked here, on the very answers that `replay`
+//! That what is decoded agrees with what was queued is checked here, on the very answers that `replay`
 //! is held to: pairs and events are the crate's, and the repeats are the model's in `sender`.
 
+use crate::any_code::any_code;
 use crate::names::{COMMANDS, LETTERS};
 use crate::queue::{plain, Pushes};
-use crate::queue_sets::any_code;
 use crate::random::{Random, SEED};
 use crate::receiver::{heard, Heard, Receiver, HI, PADDING};
 use crate::rounds::Beside;
@@ -288,8 +288,8 @@ impl Line<'_> {
     }
 }
 
-/// What a receiver told, and its state in the end: the field, and the channel by what it says to
-/// text behind all else.
+/// What a receiver answered, and its state at the end: the field, and the channel by what it says to
+/// text after all else.
 #[derive(Debug, PartialEq)]
 struct Told {
     events: Vec<Cea608>,
@@ -330,7 +330,7 @@ fn events(heard: &[Heard]) -> Vec<Cea608> {
     heard.iter().filter_map(event).collect()
 }
 
-/// What pairs tell when each is read once: padding behind a pair makes the crate forget it, so that
+/// What pairs give when each is read once: padding after a pair makes the crate forget it, so that
 /// the next one is no repeat to it.
 fn read_once(pairs: &[Pair]) -> Told {
     let mut state = Cea608State::default();
@@ -406,7 +406,7 @@ fn losses() -> Vec<Beyond> {
     ]
 }
 
-/// A hit that parity does not show is heard as another command, and padding between two copies
+/// An error that parity does not show is decoded as another command, and padding between two copies
 /// scrolls a window twice.
 fn additions() -> Vec<Beyond> {
     let scroll = plain(COMMANDS[13]);

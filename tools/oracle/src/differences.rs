@@ -32,7 +32,7 @@ pub fn differences(to: &mut Transcript) {
     count_unknowns();
 }
 
-/// What a fresh receiver hears of pairs, as lines of the listing.
+/// What a fresh receiver decodes of pairs, as lines of the listing.
 const HEARD: [(&[Pair], &str); 29] = [
     (&[[0x48, 0xE9]], "0 refused 1\n"),
     (
@@ -104,7 +104,7 @@ const HEARD: [(&[Pair], &str); 29] = [
     (&[[0x92, 0x29]], "0 text 1 1 0027 -\n"),
 ];
 
-/// The crate's events have these lines, and the last line behind them.
+/// The crate's events have these lines, and the last line after them.
 fn heard(to: &mut Transcript, pairs: &[Pair], lines: &str) {
     let text = streams::text(&pairs.concat());
     let text = String::from_utf8_lossy(&text);

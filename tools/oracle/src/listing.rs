@@ -26,7 +26,7 @@ pub fn list(input: impl Read, output: impl Write) -> Result<()> {
         output: BufWriter::new(output),
     };
     while let Some(first) = bytes.next().transpose()? {
-        // Half a pair counts as one, so a single byte is too many here, and what is behind it does not matter.
+        // Half a pair counts as one, so a single byte is too many here, and what follows does not matter.
         if listing.pairs == MOST_PAIRS {
             listing.refuse(refusal::TOO_MANY_PAIRS)?;
             break;

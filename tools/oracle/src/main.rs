@@ -1,4 +1,4 @@
-//! The oracle: what the crate cea608-types says to the queries of docs/REPLAY.md.
+//! The oracle: what the crate cea608-types says to the queries of docs/TESTING.md.
 //!
 //!     oracle sets                          the names of the sets
 //!     oracle make SET QUERIES ANSWERS      writes a set's queries and the crate's answers
@@ -15,6 +15,7 @@
 //! A layer above adds its queries and sets in a module of its own, and the sets to `SETS`.
 
 mod agreement;
+mod any_code;
 mod code;
 mod code_sets;
 mod differences;
@@ -145,7 +146,7 @@ fn list_streams() -> Result<(), String> {
     Ok(())
 }
 
-/// A stream's bytes and its text have the same name but for what is behind the dot.
+/// A stream's bytes and its text have the same name but for what follows the dot.
 fn make_streams(set: &str, folder: &str) -> Result<(), String> {
     streams::assert_worked_case();
     let (_, fill) = streams::SETS

@@ -1,5 +1,5 @@
 //! The crate's codes by name, in the order of the standard's tables. A code's place in a list is
-//! its number in docs/REPLAY.md. The lists are written out and not read off the crate, so that a
+//! its number in docs/TESTING.md. The lists are written out and not read off the crate, so that a
 //! code at the wrong bytes in the crate is seen as a difference.
 
 use cea608_types::tables::{Code, Color, Control, MidRow, PreambleType};

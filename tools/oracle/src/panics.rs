@@ -1,4 +1,4 @@
-//! Asking the crate where it may panic: a panic is an answer too, told apart by its message.
+//! Asking the crate where it may panic: a panic is an answer too, distinguished by its message.
 
 use std::any::Any;
 use std::panic::{catch_unwind, set_hook, take_hook, AssertUnwindSafe};

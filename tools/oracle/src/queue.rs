@@ -95,7 +95,7 @@ impl Writer {
     pub fn bring_to(&mut self, pieces: &Pieces) {
         self.writer.reset();
         if let Some(held) = pieces.held {
-            // A single code in front: the pop sends it and holds the command.
+            // A single code first: the pop sends it and holds the command.
             self.writer.push(LETTERS[0]);
             self.writer.push(held);
             self.writer.pop();

@@ -77,7 +77,7 @@ pub const ROLL_UP_2: [u8; 2] = [0x94, 0x25];
 pub const HI: [u8; 2] = [0xC8, 0xE9];
 
 /// Each pair of odd parity twice, read by a fresh receiver and by one that has read a command; and once by a fresh one,
-/// with text behind it, which tells the channel.
+/// with text after it, which shows the channel.
 pub fn after_every_pair(to: &mut Transcript) {
     let bytes = good_bytes();
     let mut receiver = Receiver::fresh(to);

@@ -1,6 +1,6 @@
 //! Rounds of calls in random order, on the queue and on the sender alike.
 
-use crate::queue_sets::any_code;
+use crate::any_code::any_code;
 use crate::random::Random;
 use cea608_types::tables::Code;
 

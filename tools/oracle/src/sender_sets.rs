@@ -99,7 +99,7 @@ fn any_drain(random: &mut Random) -> Drain {
 type Before = (Vec<Code>, usize);
 
 /// A fresh sender; one and three letters; a command, its first copy sent or not, also with a code
-/// behind it; a command that needs a backspace, held or not; two single codes that make a command
+/// after it; a command that needs a backspace, held or not; two single codes that make a command
 /// pair; a full queue of letters and of commands.
 fn before_drains() -> Vec<Before> {
     let (scroll, a_acute) = (plain(COMMANDS[13]), plain(SYMBOLS[16]));

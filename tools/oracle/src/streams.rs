@@ -54,7 +54,7 @@ pub fn assert_worked_case() {
     assert_eq!(String::from_utf8_lossy(&text(&WORKED)), WORKED_TEXT);
 }
 
-/// The worked case, cut off behind each of its bytes.
+/// The worked case, cut off after each of its bytes.
 fn worked() -> Vec<Stream> {
     (0..=WORKED.len())
         .map(|length| WORKED[..length].to_vec())
@@ -68,7 +68,7 @@ const ON_CHANNEL_ONE: Pair = [0x94, 0x25];
 const ON_CHANNEL_TWO: Pair = [0x1C, 0x25];
 
 /// All 65,536 pairs: in order and in reverse, before and after a channel is known; each two and three times; and each
-/// behind a command on either channel.
+/// after a command on either channel.
 fn every_pair() -> Vec<Stream> {
     let rising = || (0..=u16::MAX).map(u16::to_be_bytes);
     let falling = || rising().rev();

@@ -3,7 +3,7 @@
 
 use std::fmt::Write;
 
-/// The length of every query and of every answer in docs/REPLAY.md.
+/// The length of every query and of every answer in docs/TESTING.md.
 const LENGTH: usize = 16;
 
 #[derive(Default)]
@@ -13,7 +13,7 @@ pub struct Transcript {
 }
 
 impl Transcript {
-    /// Adds a query and the crate's answer to it, with zeros behind each.
+    /// Adds a query and the crate's answer to it, with zeros after each.
     pub fn add(&mut self, kind: u8, arguments: &[u8], answer: &[u8]) {
         let query = [&[kind], arguments].concat();
         self.queries.extend_from_slice(&padded(&query));

@@ -1,5 +1,5 @@
 //! 01's pairs tried by hand, all of them, in its order. Those marked P are computed by a proof too;
-//! the others are run here. What 01 says of each stands beside it, as answers of docs/REPLAY.md, and
+//! the others are run here. What 01 says of each stands beside it, as answers of docs/TESTING.md, and
 //! the crate's answers are those.
 
 use crate::code::{preamble_code, read_pair, write_code};

@@ -1,4 +1,4 @@
-//! The crate's values as the bytes of docs/REPLAY.md, found by comparing with the lists of names.
+//! The crate's values as the bytes of docs/TESTING.md, found by comparing with the lists of names.
 
 use crate::names::{
     mid_row, COLOURS, COMMANDS, IDS, LETTERS, MID_ROW_COLOURS, MODES, STYLES, SYMBOLS, TABS,

@@ -1,10 +1,5 @@
-//! A program of its own, which tools/build-timing builds: what a push, a pop and an `n_codes` of the
-//! crate cost. A line for each says code, call, how many codes wait before it, and nanoseconds, the
-//! loop around the call included; what the loop costs alone is the call `nothing`.
-//!
-//! It begins at the C library's `main`, since Rust's own beginning reads the process's memory map,
-//! and the toolchain's emulator fails on that.
-#![no_main]
+//! What a push, a pop and an `n_codes` of the crate cost with a number of codes waiting. A line for each says code, call, how
+//! many wait before it, and nanoseconds, the loop around the call included; what the loop costs alone is the call `nothing`.
 
 use cea608_types::tables::{
     Channel, Code, Control, ControlCode, Field, PreambleAddressCode, PreambleType,
@@ -17,19 +12,17 @@ use std::time::{Duration, Instant};
 const WRITERS: usize = 64;
 const ROUNDS: usize = 2000;
 
-#[no_mangle]
-pub extern "C" fn main() -> i32 {
+fn main() {
     let preamble = PreambleAddressCode::new(5, false, PreambleType::Indent0);
     let preamble = Control::PreambleAddress(preamble);
     let preamble = ControlCode::new(Field::ONE, Channel::ONE, preamble);
     for waiting in [0, 32, 63] {
-        tell("letters", Code::LatinCapitalA, waiting);
-        tell("preambles", Code::Control(preamble), waiting);
+        time_calls("letters", Code::LatinCapitalA, waiting);
+        time_calls("preambles", Code::Control(preamble), waiting);
     }
-    0
 }
 
-fn tell(name: &str, code: Code, waiting: usize) {
+fn time_calls(name: &str, code: Code, waiting: usize) {
     let nothing = nanoseconds(code, waiting, |_| ());
     let push = nanoseconds(code, waiting, |writer| writer.push(black_box(code)));
     let pop = nanoseconds(code, waiting, |writer| {
