@@ -1,19 +1,22 @@
-"""What the program `listing` costs a pair beside a plain listing in Rust over the crate, on the same stream: of ten pairs
-six are text, two are padding and two are a command and its copy. A run is the whole program, from a file to a file."""
+"""What the program `listing` costs a pair beside a plain listing in Rust over the crate, on the same stream, the last of the
+oracle's set `long`: of ten pairs six are text, two are padding and two are a command and its copy. A run is the whole
+program, from a file to a file."""
+import os
 import subprocess
 import sys
 
 from timing import measure
 from timing.build import BUILT, ROOT, build_ours
 
-PAIRS = 2_000_000
-RUNS = 7
+PAIRS = 1_000_000
+RUNS = 9
 
 
-def stream_of(oracle, pairs):
-    stream = BUILT / f"{pairs}.pairs"
-    subprocess.run([oracle, "mix", str(pairs), stream], check=True, stdout=subprocess.DEVNULL)
-    return stream
+def stream_of(oracle):
+    folder = BUILT / "streams"
+    folder.mkdir(parents=True, exist_ok=True)
+    subprocess.run([oracle, "streams", "long", folder], check=True, stdout=subprocess.DEVNULL)
+    return max(folder.glob("*.pairs"))
 
 
 def run(whose, program, stream):
@@ -25,7 +28,7 @@ def costs(oracle, folder):
     """A pair's nanoseconds, ours and the crate's, without what a run over no pairs takes."""
     ours = build_ours("listing", ROOT / "crates/listing/src/main.rt", ("lines", "receiver", "event", "code", "io", "libc", "os"))
     programs = {"ours": ours, "crate": folder / "plain"}
-    streams = {pairs: stream_of(oracle, pairs) for pairs in (0, PAIRS)}
+    streams = {0: os.devnull, PAIRS: stream_of(oracle)}
     runs = {
         (whose, pairs): lambda whose=whose, program=program, stream=stream: run(whose, program, stream)
         for pairs, stream in streams.items()

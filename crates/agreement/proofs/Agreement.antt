@@ -15,7 +15,7 @@ use Rattle.agreement.proofs.Doubled.{doubled-is-odd, queue-pairs-are-od
 use Rattle.agreement.proofs.DecodedOnce.{doubled-is-decoded-once}
 use Rattle.agreement.proofs.OneByOne.{line-one-by-one}
 use Rattle.sender.proofs.Refines.{fresh-good, push-good, said-idle, send-good}
-use Rattle.agreement.proofs.Refused.{the-spoiled-are-refused}
+use Rattle.agreement.proofs.Refused.{the-corrupted-are-refused}
 use Rattle.agreement.specs.Agreement.{Act, queueing, sending, DemandThree, EndsIdle, afterActs, queuePairs, sentBy}
 use Rattle.agreement.specs.Doubled.{doubled}
 use Rattle.sender.specs.Good.{Good}
@@ -56,5 +56,5 @@ agreement acts arrived idle line =
       same-events = heard .same-events;
       same-channel = heard .ends-same .channel;
       same-field = heard .ends-same .field;
-      refuses-the-spoiled = the-spoiled-are-refused (sentBy acts freshSender) arrived fresh sent-odd (line .pairs);
+      refuses-the-spoiled = the-corrupted-are-refused (sentBy acts freshSender) arrived fresh sent-odd (line .pairs);
     }

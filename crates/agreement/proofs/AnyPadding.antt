@@ -1,18 +1,13 @@
 -- The agreement and the frame-rate law together: of what has arrived, at most one copy corrupted in each stretch,
 -- padding may be put in or taken out wherever the receiver awaits no repeat, and it reports what was queued.
 -- Assumes nothing.
-use mathlib.Core.List.{List}
 use mathlib.Core.Path.{sym, _∙_}
-use Rattle.code.specs.declared.pair.Pair.{Pair}
-use Rattle.agreement.proofs.FrameRate.{frame-rate-law}
-use Rattle.agreement.specs.FrameRate.{Repadded}
-use Rattle.receiver.specs.Receiver.{fresh}
 use Rattle.agreement.proofs.Agreement.{agreement}
-use Rattle.agreement.specs.Agreement.{Act, EndsIdle, Line, sentBy}
-use Rattle.agreement.specs.AnyPadding.{AtAnyPadding}
-use Rattle.sender.specs.Sender.{freshSender}
+use Rattle.agreement.proofs.FrameRate.{frame-rate-law}
+use Rattle.agreement.specs.AnyPadding.{AnyPaddingLaw}
+use Rattle.receiver.specs.Receiver.{fresh}
 
-pub at-any-padding : (acts : List Act) (arrived padded : List Pair) → EndsIdle acts → Line (sentBy acts freshSender) arrived → Repadded fresh arrived padded → AtAnyPadding acts arrived padded
+pub at-any-padding : AnyPaddingLaw
 at-any-padding acts arrived padded idle line repadded =
     let agrees = agreement acts arrived idle line in
     let same = frame-rate-law fresh arrived padded repadded in

@@ -74,43 +74,43 @@ unfolding readPair ones onesIn standard
 what-is-meant = refl
 
 -- a copy of each command corrupted, the first of the one and the second of the other: all is decoded
-abbrev oneHitEach : List Pair
-oneHitEach = pair 0x14 0x25 ∷ rollUp ∷ return ∷ pair 0x94 0x2D ∷ hi ∷ []
+abbrev oneCorruptedEach : List Pair
+oneCorruptedEach = pair 0x14 0x25 ∷ rollUp ∷ return ∷ pair 0x94 0x2D ∷ hi ∷ []
 
-pub one-hit-each-is-allowed : Line line oneHitEach
+pub one-corrupted-each-is-allowed : Line line oneCorruptedEach
 unfolding ones onesIn
-one-hit-each-is-allowed =
-    one-by-one-is-a-line line oneHitEach (refl, (refl, (refl, (refl, (refl, tt)))))
+one-corrupted-each-is-allowed =
+    one-by-one-is-a-line line oneCorruptedEach (refl, (refl, (refl, (refl, (refl, tt)))))
     (one.is-spoiled refl refl refl (one.arrives (one.arrives (one.is-spoiled refl refl refl (one.arrives one.ends)))))
 
-pub one-hit-each-is-decoded : events (answers fresh oneHitEach) ≡ modeEvent ∷ returnEvent ∷ hiEvent ∷ []
+pub one-corrupted-each-is-decoded : events (answers fresh oneCorruptedEach) ≡ modeEvent ∷ returnEvent ∷ hiEvent ∷ []
 unfolding readPair ones onesIn standard
-one-hit-each-is-decoded = refl
+one-corrupted-each-is-decoded = refl
 
-pub one-hit-each-is-refused : map refusal (answers fresh oneHitEach) ≡ 1 ∷ 0 ∷ 0 ∷ 1 ∷ 0 ∷ []
+pub one-corrupted-each-is-refused : map refusal (answers fresh oneCorruptedEach) ≡ 1 ∷ 0 ∷ 0 ∷ 1 ∷ 0 ∷ []
 unfolding readPair ones onesIn standard
-one-hit-each-is-refused = refl
+one-corrupted-each-is-refused = refl
 
 -- both copies of the carriage return corrupted: the line may corrupt one, not both, and the window does not scroll
-abbrev twoHits : List Pair
-twoHits = rollUp ∷ rollUp ∷ pair 0x14 0xAD ∷ pair 0x94 0x2D ∷ hi ∷ []
+abbrev twoCorrupted : List Pair
+twoCorrupted = rollUp ∷ rollUp ∷ pair 0x14 0xAD ∷ pair 0x94 0x2D ∷ hi ∷ []
 
-pub two-hits-are-carried : Carried line twoHits
+pub two-corrupted-are-carried : Carried line twoCorrupted
 unfolding ones onesIn
-two-hits-are-carried =
+two-corrupted-are-carried =
     agreed.arrives (agreed.arrives (agreed.is-spoiled refl refl (agreed.is-spoiled refl refl (agreed.arrives agreed.ends))))
 
-pub two-hits-lose-a-command : events (answers fresh twoHits) ≡ modeEvent ∷ hiEvent ∷ []
+pub two-corrupted-lose-a-command : events (answers fresh twoCorrupted) ≡ modeEvent ∷ hiEvent ∷ []
 unfolding readPair ones onesIn standard
-two-hits-lose-a-command = refl
+two-corrupted-lose-a-command = refl
 
 -- the text corrupted, and no command: its words are lost
-abbrev textHit : List Pair
-textHit = rollUp ∷ rollUp ∷ return ∷ return ∷ pair 0x48 0xE9 ∷ []
+abbrev textCorrupted : List Pair
+textCorrupted = rollUp ∷ rollUp ∷ return ∷ return ∷ pair 0x48 0xE9 ∷ []
 
-pub a-hit-on-text-loses-words : events (answers fresh textHit) ≡ modeEvent ∷ returnEvent ∷ []
+pub corrupted-text-loses-words : events (answers fresh textCorrupted) ≡ modeEvent ∷ returnEvent ∷ []
 unfolding readPair ones onesIn
-a-hit-on-text-loses-words = refl
+corrupted-text-loses-words = refl
 
 -- so the agreement fails for both: two events are decoded, and three were meant
 fails : (arrived : List Pair) → length (events (answers fresh arrived)) ≡ 2 → Agreement programme arrived → ⊥
@@ -118,11 +118,11 @@ fails arrived two agrees =
     let meant = agrees .same-events ∙ ap (λ (ps : List Pair). events (readOnce fresh ps)) (what-is-sent .1) ∙ what-is-meant in
     omega (arith, two, ap length meant)
 
-pub no-agreement-over-two-hits : Agreement programme twoHits → ⊥
-no-agreement-over-two-hits agrees = fails twoHits (ap length two-hits-lose-a-command) agrees
+pub no-agreement-over-two-corrupted : Agreement programme twoCorrupted → ⊥
+no-agreement-over-two-corrupted agrees = fails twoCorrupted (ap length two-corrupted-lose-a-command) agrees
 
-pub no-agreement-over-a-text-hit : Agreement programme textHit → ⊥
-no-agreement-over-a-text-hit agrees = fails textHit (ap length a-hit-on-text-loses-words) agrees
+pub no-agreement-over-corrupted-text : Agreement programme textCorrupted → ⊥
+no-agreement-over-corrupted-text agrees = fails textCorrupted (ap length corrupted-text-loses-words) agrees
 
 -- a carriage return queued twice is a stretch of four, and two corrupted copies lose one of the two scrolls
 abbrev twoReturns : List Act
@@ -133,8 +133,8 @@ pub a-stretch-of-four : (sentBy twoReturns freshSender ≡ return ∷ return ∷
 unfolding ones onesIn writeCode inDomain admit pairOf pop pushRing popRing ring.wellFormed wellFormed pushSender send sendSender
 a-stretch-of-four = (refl, refl)
 
-pub two-hits-of-four-lose-a-command :
+pub two-corrupted-of-four-lose-a-command :
     (events (readOnce fresh (return ∷ return ∷ [])) ≡ returnEvent ∷ returnEvent ∷ [])
     × (events (answers fresh (return ∷ pair 0x14 0xAD ∷ pair 0x14 0xAD ∷ return ∷ [])) ≡ returnEvent ∷ [])
 unfolding readPair ones onesIn
-two-hits-of-four-lose-a-command = (refl, refl)
+two-corrupted-of-four-lose-a-command = (refl, refl)

@@ -32,9 +32,9 @@ arrived s p odd =
 hit : (s : Cea608State) (p q : Pair) → isOddPair p ≡ true → isOddPair q ≡ false → refusal (step s q .0) ≡ cond (samePair p q) 0 1
 hit s p q odd even = rw (even-is-refused-1 s q even, spoiled-is-another p q odd even) refl
 
-pub the-spoiled-are-refused : (ps qs : List Pair) (s : Cea608State) → AllOdd ps → Carried ps qs → map refusal (answers s qs) ≡ spoiledPlaces ps qs
-the-spoiled-are-refused ps qs s all line.ends = refl
-the-spoiled-are-refused ps qs s all (line.arrives {p = p} {ps = ps′} {qs = qs′} rest) =
-    ap₂ _∷_ (arrived s p (all .0)) (the-spoiled-are-refused ps′ qs′ (step s p .1) (all .1) rest)
-the-spoiled-are-refused ps qs s all (line.is-spoiled {p = p} {q = q} {ps = ps′} {qs = qs′} command even rest) =
-    ap₂ _∷_ (hit s p q (all .0) even) (the-spoiled-are-refused ps′ qs′ (step s q .1) (all .1) rest)
+pub the-corrupted-are-refused : (ps qs : List Pair) (s : Cea608State) → AllOdd ps → Carried ps qs → map refusal (answers s qs) ≡ spoiledPlaces ps qs
+the-corrupted-are-refused ps qs s all line.ends = refl
+the-corrupted-are-refused ps qs s all (line.arrives {p = p} {ps = ps′} {qs = qs′} rest) =
+    ap₂ _∷_ (arrived s p (all .0)) (the-corrupted-are-refused ps′ qs′ (step s p .1) (all .1) rest)
+the-corrupted-are-refused ps qs s all (line.is-spoiled {p = p} {q = q} {ps = ps′} {qs = qs′} command even rest) =
+    ap₂ _∷_ (hit s p q (all .0) even) (the-corrupted-are-refused ps′ qs′ (step s q .1) (all .1) rest)

@@ -16,7 +16,7 @@ fn main() {
         return;
     };
     let pushed = pushed.sender.push(note);
-    let mut fields = [0x80u8; 16];
-    pushed.sender.drain(&mut fields, 0, 8);
-    io::write_all(STDOUT_FILENO, &fields);
+    let mut line = [0x80u8; 16];
+    pushed.sender.drain(&mut line, 0, 8);
+    io::write_all(STDOUT_FILENO, &line);
 }

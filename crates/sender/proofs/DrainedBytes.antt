@@ -116,7 +116,7 @@ module _ (s : Sender) (out : List ℕ) (start limit : ℕ) (formed : wellFormed 
   same-before-the-start i d less =
       ap (λ (r : Outcome ℕ × Sender × List ℕ). getD (r .2) i d) drains-as ∙ same-in-front out start itsPairs inside room i d less
 
-  pub same-behind-the-last-pair : (i d : ℕ) → start + 2 * length itsPairs ≤ i → getD (drainSender s out start limit .2) i d ≡ getD out i d
-  same-behind-the-last-pair i d past =
+  pub same-after-the-last-pair : (i d : ℕ) → start + 2 * length itsPairs ≤ i → getD (drainSender s out start limit .2) i d ≡ getD out i d
+  same-after-the-last-pair i d past =
       ap (λ (r : Outcome ℕ × Sender × List ℕ). getD (r .2) i d) drains-as
       ∙ same-behind out start itsPairs inside room i d (omega (arith, past, two-a-pair itsPairs))

@@ -62,7 +62,7 @@ pub fn sessions(to: &mut Transcript, random: &mut Random) {
     }
     met.reached_everything();
     print!(
-        "{} pairs arrived in {} sessions, {} spoiled, {} of padding put in, {} taken out: ",
+        "{} pairs received in {} sessions, {} corrupted, {} of padding put in, {} taken out: ",
         met.arrived, met.sessions, met.spoiled, met.put_in, met.taken_out
     );
 }

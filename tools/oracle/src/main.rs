@@ -4,12 +4,10 @@
 //!     oracle make SET QUERIES ANSWERS      writes a set's queries and the crate's answers
 //!     oracle compare QUERIES ANSWERS GOT   compares what `replay` wrote with the crate's answers
 //!
-//! And the listing's text of 01, made of the crate's events:
+//! And streams of pairs with the listing's text of each, made of the crate's events:
 //!
-//!     oracle listing INPUT OUTPUT          writes the text of a file of raw bytes
 //!     oracle streams                       the names of the sets of streams
 //!     oracle streams SET FOLDER            writes a set's streams and the text of each
-//!     oracle mix PAIRS OUTPUT              writes a stream of so many pairs, as the benchmark takes it
 //!
 //! A set that is chosen at random is made from a seed, which is printed; SEED names another one.
 //! A layer above adds its queries and sets in a module of its own, and the sets to `SETS`.
@@ -36,22 +34,18 @@ mod transcript;
 mod tried_by_hand;
 mod values;
 
+use random::Fill::{self, FromSeed, Whole};
 use random::{Random, SEED};
-use std::fs::{read, write, File};
+use std::fs::{read, write};
 use std::process::exit;
 use transcript::Transcript;
-use Fill::{FromSeed, Whole};
 
 const USAGE: &str = "usage: oracle sets | make SET QUERIES ANSWERS | compare QUERIES ANSWERS GOT \
-    | listing INPUT OUTPUT | streams [SET FOLDER] | mix PAIRS OUTPUT";
+    | streams [SET FOLDER]";
 
-/// A set goes through the whole of what it asks about, or makes a choice from a seed.
-enum Fill {
-    Whole(fn(&mut Transcript)),
-    FromSeed(fn(&mut Transcript, &mut Random)),
-}
+type Asks = Fill<fn(&mut Transcript), fn(&mut Transcript, &mut Random)>;
 
-const SETS: [(&str, Fill); 16] = [
+const SETS: [(&str, Asks); 16] = [
     ("sample", Whole(sample::sample)),
     ("pairs", Whole(code_sets::pairs)),
     ("singles", Whole(code_sets::singles)),
@@ -66,7 +60,7 @@ const SETS: [(&str, Fill); 16] = [
     ("queue", FromSeed(queue_sets::calls)),
     ("queue_ill_formed", FromSeed(queue_sets::ill_formed)),
     ("sender", FromSeed(sender_sets::calls)),
-    ("ill-formed-senders", FromSeed(sender_sets::ill_formed)),
+    ("sender_ill_formed", FromSeed(sender_sets::ill_formed)),
     ("agreement", FromSeed(agreement::sessions)),
 ];
 
@@ -78,10 +72,8 @@ fn main() {
         ["sets"] => list_sets(),
         ["make", set, queries, answers] => make(set, queries, answers),
         ["compare", queries, answers, got] => compare(queries, answers, got),
-        ["listing", input, output] => write_listing(input, output),
         ["streams"] => list_streams(),
         ["streams", set, folder] => make_streams(set, folder),
-        ["mix", pairs, output] => make_mix(pairs, output),
         _ => Err(USAGE.into()),
     };
     if let Err(text) = done {
@@ -132,13 +124,6 @@ fn compare(queries: &str, answers: &str, got: &str) -> Result<(), String> {
     Ok(())
 }
 
-fn write_listing(input: &str, output: &str) -> Result<(), String> {
-    streams::assert_worked_case();
-    let from = File::open(input).map_err(|error| format!("{input}: {error}"))?;
-    let to = File::create(output).map_err(|error| format!("{output}: {error}"))?;
-    listing::list(from, to).map_err(|error| format!("{input} to {output}: {error}"))
-}
-
 fn list_streams() -> Result<(), String> {
     for (name, _) in streams::SETS {
         println!("{name}");
@@ -154,8 +139,8 @@ fn make_streams(set: &str, folder: &str) -> Result<(), String> {
         .find(|(name, _)| *name == set)
         .ok_or_else(|| format!("there is no set of streams {set}"))?;
     let streams = match fill {
-        streams::Fill::Whole(fill) => fill(),
-        streams::Fill::FromSeed(fill) => {
+        Whole(fill) => fill(),
+        FromSeed(fill) => {
             let seed = seed()?;
             print!("from seed {seed}: ");
             fill(&mut Random::from_seed(seed))
@@ -169,14 +154,6 @@ fn make_streams(set: &str, folder: &str) -> Result<(), String> {
         )?;
     }
     Ok(())
-}
-
-fn make_mix(pairs: &str, output: &str) -> Result<(), String> {
-    let pairs = pairs.parse().map_err(|error| format!("{pairs}: {error}"))?;
-    save(
-        output,
-        &streams::mix(&mut Random::from_seed(seed()?), pairs),
-    )
 }
 
 fn load(path: &str) -> Result<Vec<u8>, String> {

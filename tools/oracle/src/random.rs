@@ -1,7 +1,13 @@
-//! Numbers that look random and are the same in every run from the same seed.
+//! Numbers that look random and are the same in every run from the same seed, and sets that are made of them.
 
 /// The seed where no other is asked for.
 pub const SEED: u64 = 608;
+
+/// A set goes through the whole of what it asks about, or makes a choice from a seed.
+pub enum Fill<W, S> {
+    Whole(W),
+    FromSeed(S),
+}
 
 pub struct Random(u64);
 

@@ -3,19 +3,15 @@
 
 use crate::code::with_parity;
 use crate::listing::{list, MOST_PAIRS};
+use crate::random::Fill::{self, FromSeed, Whole};
 use crate::random::Random;
 use crate::receiver::{Line, PADDING};
-use Fill::{FromSeed, Whole};
 
 pub type Stream = Vec<u8>;
 
-/// A set goes through the whole of what it asks about, or makes a choice from a seed.
-pub enum Fill {
-    Whole(fn() -> Vec<Stream>),
-    FromSeed(fn(&mut Random) -> Vec<Stream>),
-}
+pub type Streams = Fill<fn() -> Vec<Stream>, fn(&mut Random) -> Vec<Stream>>;
 
-pub const SETS: [(&str, Fill); 7] = [
+pub const SETS: [(&str, Streams); 7] = [
     ("worked", Whole(worked)),
     ("every_pair", Whole(every_pair)),
     ("short", FromSeed(short)),
@@ -131,7 +127,7 @@ fn edges(random: &mut Random) -> Vec<Stream> {
     streams
 }
 
-/// Streams that come to the program a few bytes at a time, for which tools/compare-listing sees.
+/// Streams that come to the program a few bytes at a time, for which tools/compare sees.
 fn pieces(random: &mut Random) -> Vec<Stream> {
     [999, 1000, 1001]
         .map(|length| of_a_line(random, length))
@@ -164,7 +160,7 @@ fn limit() -> Vec<Stream> {
 }
 
 /// What a caption line brings undisturbed: of ten pairs six are text, two are padding and two are a command and its copy.
-pub fn mix(random: &mut Random, pairs: usize) -> Stream {
+fn mix(random: &mut Random, pairs: usize) -> Stream {
     let mut stream = Vec::with_capacity(2 * pairs + 2);
     while stream.len() < 2 * pairs {
         // A command is two pairs, so that it is drawn half as often as its share.
