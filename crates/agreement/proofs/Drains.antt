@@ -1,5 +1,5 @@
--- A drain is a number of sends in a row: its pairs are theirs, and so is the state after it. So the agreement holds
--- where a drain sends the pairs too.
+-- A drain is a number of sends in a row: its pairs are theirs, and so is the state after it. The agreement is stated over
+-- pushes and sends; this is what leads from a drain to it.
 -- Assumes nothing.
 use mathlib.Core.Bool.{Bool, true, false, cond}
 use mathlib.Core.List.{List, [], _∷_, _++_}
