@@ -13,7 +13,7 @@ at-any-padding acts arrived padded idle line repadded =
     let same = frame-rate-law fresh arrived padded repadded in
     record {
       same-events = sym (same .same-events) ∙ agrees .same-events;
-      same-channel = sym (same .ends-in-channel) ∙ agrees .same-channel;
-      same-field = sym (same .ends-in-field) ∙ agrees .same-field;
+      same-channel = sym (same .ends-alike .same-channel) ∙ agrees .same-channel;
+      same-field = sym (same .ends-alike .same-field) ∙ agrees .same-field;
       same-said = sym (same .same-said);
     }

@@ -15,15 +15,15 @@ use Rattle.code.specs.Channel.{channelOne}
 use Rattle.code.specs.Outcome.{Outcome, answer, refused}
 use Rattle.code.specs.Parity.{stripped}
 use Rattle.code.specs.Read.{isCommand, readPair}
-use Rattle.code.specs.Write.{pair}
 use Rattle.code.specs.declared.code.Code.{Code}
 use Rattle.code.specs.declared.code.Code.the-variants as code
 use Rattle.code.specs.declared.control.ControlCode.{ControlCode}
 use Rattle.code.specs.declared.pair.Pair.{Pair}
 use Rattle.event.specs.declared.event.Cea608.{Cea608}
 use Rattle.event.specs.declared.event.Cea608.the-variants as event
-use Rattle.agreement.specs.FrameRate.{Alike, FrameRateLaw, Quiet, Repadded, awaits, padding}
+use Rattle.agreement.specs.FrameRate.{Alike, FrameRateLaw, Quiet, Repadded, awaits}
 use Rattle.agreement.specs.FrameRate as repadded
+use Rattle.agreement.specs.Pairs.{carriageReturn, hi, padding}
 use Rattle.receiver.specs.Reading.{after, answers, events, said}
 use Rattle.receiver.specs.Receiver.{afterReading, fieldAfter, fresh, heardCodes, heardText, isLast, state, step, Stepped, textFor}
 use Rattle.receiver.specs.declared.state.Cea608State.{Cea608State}
@@ -36,11 +36,11 @@ use Rattle.receiver.specs.declared.state.LastPair.the-variants as last
 pub alike-itself : (s : Cea608State) → Alike s s
 alike-itself s = record { same-channel = refl; same-field = refl; same-wait = inl refl }
 
--- where no repeat is awaited, a command is never the last pair
 differs : (t u : Bool) → (t ≡ true → ⊥) → t && u ≡ false
 differs true u h = absurd (h refl)
 differs false u h = refl
 
+-- where no repeat is awaited, a command is never the last pair
 pub quiet-is-no-repeat : (p : Pair) (c : ControlCode) (y : Code) (l : LastPair) → readPair (p .0) (p .1) ≡ answer (code.Control c, y) → awaits l ≡ false → isLast p l ≡ false
 quiet-is-no-repeat p c y last.Absent e quiet = refl
 quiet-is-no-repeat p c y (last.Was q) e quiet =
@@ -164,18 +164,10 @@ frame-rate-law s ps qs r =
     record {
       same-events = sym (events-said (answers s ps)) ∙ ap events (h .0) ∙ events-said (answers s qs);
       same-said = h .0;
-      ends-in-channel = h .1 .same-channel;
-      ends-in-field = h .1 .same-field;
       ends-alike = h .1;
     }
 
-abbrev carriageReturn : Pair
-carriageReturn = pair 0x94 0xAD
-
 -- a doubled carriage return and text, with padding put in before them, after the two copies and after the text
-abbrev hi : Pair
-hi = pair 0xC8 0xE9
-
 pub padded-in-three-places : Repadded fresh (carriageReturn ∷ carriageReturn ∷ hi ∷ []) (padding ∷ carriageReturn ∷ carriageReturn ∷ padding ∷ hi ∷ padding ∷ [])
 unfolding readPair ones onesIn
 padded-in-three-places =

@@ -33,6 +33,7 @@ use Rattle.agreement.proofs.OneByOne.{one-by-one-is-a-line}
 use Rattle.agreement.specs.Agreement.{Act, queueing, sending, Agreement, Carried, EndsIdle, Line, queuePairs, refusal, sentBy}
 use Rattle.agreement.specs.Agreement as agreed
 use Rattle.agreement.specs.OneByOne as one
+use Rattle.agreement.specs.Pairs.{carriageReturn, hi, rollUp2}
 use Rattle.sender.specs.Sender.{freshSender, idleSender, pushSender, sendSender, wellFormed}
 use Rattle.sender.specs.Sending.{send}
 
@@ -44,15 +45,6 @@ programme =
     queueing (command RollUp2) ∷ queueing (command CarriageReturn) ∷ queueing (code.Letter (letterAt 0x28))
     ∷ queueing (code.Letter (letterAt 0x49)) ∷ sending ∷ sending ∷ sending ∷ sending ∷ sending ∷ []
 
-abbrev rollUp : Pair
-rollUp = pair 0x94 0x25
-
-abbrev return : Pair
-return = pair 0x94 0xAD
-
-abbrev hi : Pair
-hi = pair 0xC8 0xE9
-
 abbrev modeEvent : Cea608
 modeEvent = event.NewMode channelOne mode.RollUp2
 
@@ -63,19 +55,19 @@ abbrev hiEvent : Cea608
 hiEvent = event.Text (record { «needs_backspace» = false; char1 = character.Point 0x48; char2 = character.Point 0x69; channel = channelOne })
 
 abbrev line : List Pair
-line = rollUp ∷ rollUp ∷ return ∷ return ∷ hi ∷ []
+line = rollUp2 ∷ rollUp2 ∷ carriageReturn ∷ carriageReturn ∷ hi ∷ []
 
-pub what-is-sent : (sentBy programme freshSender ≡ line) × (queuePairs programme freshSender ≡ rollUp ∷ return ∷ hi ∷ []) × EndsIdle programme
+pub what-is-sent : (sentBy programme freshSender ≡ line) × (queuePairs programme freshSender ≡ rollUp2 ∷ carriageReturn ∷ hi ∷ []) × EndsIdle programme
 unfolding ones onesIn writeCode inDomain admit pairOf pop pushRing popRing ring.wellFormed wellFormed pushSender send sendSender idleSender
 what-is-sent = (refl, refl, refl)
 
-pub what-is-meant : events (readOnce fresh (rollUp ∷ return ∷ hi ∷ [])) ≡ modeEvent ∷ returnEvent ∷ hiEvent ∷ []
+pub what-is-meant : events (readOnce fresh (rollUp2 ∷ carriageReturn ∷ hi ∷ [])) ≡ modeEvent ∷ returnEvent ∷ hiEvent ∷ []
 unfolding readPair ones onesIn standard
 what-is-meant = refl
 
 -- a copy of each command corrupted, the first of the one and the second of the other: all is decoded
 abbrev oneCorruptedEach : List Pair
-oneCorruptedEach = pair 0x14 0x25 ∷ rollUp ∷ return ∷ pair 0x94 0x2D ∷ hi ∷ []
+oneCorruptedEach = pair 0x14 0x25 ∷ rollUp2 ∷ carriageReturn ∷ pair 0x94 0x2D ∷ hi ∷ []
 
 pub one-corrupted-each-is-allowed : Line line oneCorruptedEach
 unfolding ones onesIn
@@ -93,7 +85,7 @@ one-corrupted-each-is-refused = refl
 
 -- both copies of the carriage return corrupted: the line may corrupt one, not both, and the window does not scroll
 abbrev twoCorrupted : List Pair
-twoCorrupted = rollUp ∷ rollUp ∷ pair 0x14 0xAD ∷ pair 0x94 0x2D ∷ hi ∷ []
+twoCorrupted = rollUp2 ∷ rollUp2 ∷ pair 0x14 0xAD ∷ pair 0x94 0x2D ∷ hi ∷ []
 
 pub two-corrupted-are-carried : Carried line twoCorrupted
 unfolding ones onesIn
@@ -106,7 +98,7 @@ two-corrupted-lose-a-command = refl
 
 -- the text corrupted, and no command: its words are lost
 abbrev textCorrupted : List Pair
-textCorrupted = rollUp ∷ rollUp ∷ return ∷ return ∷ pair 0x48 0xE9 ∷ []
+textCorrupted = rollUp2 ∷ rollUp2 ∷ carriageReturn ∷ carriageReturn ∷ pair 0x48 0xE9 ∷ []
 
 pub corrupted-text-loses-words : events (answers fresh textCorrupted) ≡ modeEvent ∷ returnEvent ∷ []
 unfolding readPair ones onesIn
@@ -129,12 +121,12 @@ abbrev twoReturns : List Act
 twoReturns =
     queueing (command CarriageReturn) ∷ queueing (command CarriageReturn) ∷ sending ∷ sending ∷ sending ∷ sending ∷ []
 
-pub a-stretch-of-four : (sentBy twoReturns freshSender ≡ return ∷ return ∷ return ∷ return ∷ []) × (queuePairs twoReturns freshSender ≡ return ∷ return ∷ [])
+pub a-stretch-of-four : (sentBy twoReturns freshSender ≡ carriageReturn ∷ carriageReturn ∷ carriageReturn ∷ carriageReturn ∷ []) × (queuePairs twoReturns freshSender ≡ carriageReturn ∷ carriageReturn ∷ [])
 unfolding ones onesIn writeCode inDomain admit pairOf pop pushRing popRing ring.wellFormed wellFormed pushSender send sendSender
 a-stretch-of-four = (refl, refl)
 
 pub two-corrupted-of-four-lose-a-command :
-    (events (readOnce fresh (return ∷ return ∷ [])) ≡ returnEvent ∷ returnEvent ∷ [])
-    × (events (answers fresh (return ∷ pair 0x14 0xAD ∷ pair 0x14 0xAD ∷ return ∷ [])) ≡ returnEvent ∷ [])
+    (events (readOnce fresh (carriageReturn ∷ carriageReturn ∷ [])) ≡ returnEvent ∷ returnEvent ∷ [])
+    × (events (answers fresh (carriageReturn ∷ pair 0x14 0xAD ∷ pair 0x14 0xAD ∷ carriageReturn ∷ [])) ≡ returnEvent ∷ [])
 unfolding readPair ones onesIn
 two-corrupted-of-four-lose-a-command = (refl, refl)

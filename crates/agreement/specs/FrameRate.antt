@@ -6,16 +6,13 @@ use mathlib.Core.List.{List, [], _∷_}
 use mathlib.Core.Logic.{_⊎_}
 use mathlib.Core.Path.{_≡_}
 use Rattle.code.specs.Read.{isCommandPair}
-use Rattle.code.specs.Write.{pair}
 use Rattle.code.specs.declared.pair.Pair.{Pair}
+use Rattle.agreement.specs.Pairs.{padding}
 use Rattle.receiver.specs.Reading.{after, answers, events, said}
 use Rattle.receiver.specs.Receiver.{step}
 use Rattle.receiver.specs.declared.state.Cea608State.{Cea608State}
 use Rattle.receiver.specs.declared.state.LastPair.{LastPair}
 use Rattle.receiver.specs.declared.state.LastPair.the-variants as last
-
-abbrev pub padding : Pair
-padding = pair 0x80 0x80
 
 -- The last pair is a command, whose repeat may come. A refused pair is not held: after a command and a corrupted pair, the
 -- command's repeat is still awaited.
@@ -34,18 +31,17 @@ pub data Repadded : Cea608State → List Pair → List Pair → Type 0 where
   puts-in : {s : Cea608State} {ps qs : List Pair} → Quiet s → Repadded s ps qs → Repadded s ps (padding ∷ qs)
   takes-out : {s : Cea608State} {ps qs : List Pair} → Quiet s → Repadded (step s padding .1) ps qs → Repadded s (padding ∷ ps) qs
 
--- two states that no later pair distinguishes
+-- two states of one channel and field, both with the same last pair or neither awaiting a repeat
 pub record Alike (s t : Cea608State) : Type 0 where
   pub same-channel : s .«last_channel» ≡ t .«last_channel»
   pub same-field : s .«last_received_field» ≡ t .«last_received_field»
   pub same-wait : (s .«last_data» ≡ t .«last_data») ⊎ (Quiet s × Quiet t)
 
--- the same events in the same order, the same refusals among them, the same channel and field at the end
+-- the same events in the same order, the same refusals among them, and states at the end with the same channel and field
+-- that no later pair distinguishes
 pub record SameCaptions (s : Cea608State) (ps qs : List Pair) : Type 0 where
   pub same-events : events (answers s ps) ≡ events (answers s qs)
   pub same-said : said (answers s ps) ≡ said (answers s qs)
-  pub ends-in-channel : after s ps .«last_channel» ≡ after s qs .«last_channel»
-  pub ends-in-field : after s ps .«last_received_field» ≡ after s qs .«last_received_field»
   pub ends-alike : Alike (after s ps) (after s qs)
 
 -- from any state, at any number of such places

@@ -3,4 +3,5 @@ pub mod AnyPadding
 pub mod Doubled
 pub mod FrameRate
 pub mod OneByOne
+pub mod Pairs
 pub mod TriedByHand

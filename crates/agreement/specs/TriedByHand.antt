@@ -25,6 +25,7 @@ use Rattle.code.specs.declared.preamble.PreambleType.the-variants as style
 use Rattle.event.specs.declared.event.Cea608.{Cea608}
 use Rattle.event.specs.declared.event.Cea608.the-variants as event
 use Rattle.event.specs.declared.mode.Mode.the-variants.{RollUp2}
+use Rattle.agreement.specs.Pairs.{hi, padding, rollUp2}
 use Rattle.queue.specs.Calls.{Reply, popping, pushing, ringReplies, toPop, toPush}
 use Rattle.queue.specs.Ring.{freshRing}
 use Rattle.receiver.specs.Reading.{answers}
@@ -47,21 +48,18 @@ try (reads p) = codes (readPair (p .0) (p .1))
 try (hears ps) = heard (answers fresh ps)
 try (queues cs n) = replies (ringReplies (map pushing cs ++ replicate n popping) freshRing)
 
-abbrev rollUp2 : Pair
-rollUp2 = pair 0x94 0x25
-
 abbrev letter-H : Code
 letter-H = code.Letter (letterAt 0x28)
 
 abbrev pub pairsTried : List Tried
 pairsTried =
     reads (pair 0x10 0x40) ∷ reads (pair 0x10 0xE0) ∷ reads (pair 0x15 0x2C) ∷ reads (pair 0x94 0x2C) ∷ reads (pair 0x97 0xA1)
-    ∷ reads (pair 0x91 0xAE) ∷ hears (rollUp2 ∷ rollUp2 ∷ rollUp2 ∷ []) ∷ hears (rollUp2 ∷ pair 0x80 0x80 ∷ rollUp2 ∷ [])
-    ∷ hears (pair 0xC8 0xE9 ∷ []) ∷ queues [] 1 ∷ queues (letter-H ∷ A-acute ∷ []) 2 ∷ queues (A-acute ∷ []) 2 ∷ []
+    ∷ reads (pair 0x91 0xAE) ∷ hears (rollUp2 ∷ rollUp2 ∷ rollUp2 ∷ []) ∷ hears (rollUp2 ∷ padding ∷ rollUp2 ∷ [])
+    ∷ hears (hi ∷ []) ∷ queues [] 1 ∷ queues (letter-H ∷ A-acute ∷ []) 2 ∷ queues (A-acute ∷ []) 2 ∷ []
 
--- a command on channel one
-abbrev said : CodeField → Control → Gave
-said f c = codes (answer (code.Control (record { field = f; channel = channelOne; control = c }), code.Nul))
+-- a pair read as a command on channel one
+abbrev readAs : CodeField → Control → Gave
+readAs f c = codes (answer (code.Control (record { field = f; channel = channelOne; control = c }), code.Nul))
 
 abbrev two-rows : Outcome (Option Cea608)
 two-rows = answer (some (event.NewMode channelOne RollUp2))
@@ -69,17 +67,17 @@ two-rows = answer (some (event.NewMode channelOne RollUp2))
 abbrev accepted : Reply
 accepted = toPush (answer tt)
 
-abbrev sent : ℕ → ℕ → Reply
-sent a b = toPop (answer (pair a b))
+abbrev popGives : ℕ → ℕ → Reply
+popGives a b = toPop (answer (pair a b))
 
 -- row 10 white; no row; erase for field two and for field one; tab 1; italics; an event, none, an event; two events; none;
 -- padding; H and a space, then Á; a space, then Á
 abbrev pub whatTheyGive : List Gave
 whatTheyGive =
-    said Absent (control.Preamble (record { row = 10; underline = false; ty = style.Color White }))
-    ∷ said Absent (control.Unknown 0x10 0x60) ∷ said (Of fieldTwo) (control.Command EraseDisplayedMemory)
-    ∷ said (Of fieldOne) (control.Command EraseDisplayedMemory) ∷ said Absent (control.Tab TabOffset1)
-    ∷ said Absent (control.MidRow (italic false)) ∷ heard (two-rows ∷ answer none ∷ two-rows ∷ [])
-    ∷ heard (two-rows ∷ answer none ∷ two-rows ∷ []) ∷ heard (answer none ∷ []) ∷ replies (sent 0x80 0x80 ∷ [])
-    ∷ replies (accepted ∷ accepted ∷ sent 0xC8 0x20 ∷ sent 0x92 0x20 ∷ [])
-    ∷ replies (accepted ∷ sent 0x20 0x80 ∷ sent 0x92 0x20 ∷ []) ∷ []
+    readAs Absent (control.Preamble (record { row = 10; underline = false; ty = style.Color White }))
+    ∷ readAs Absent (control.Unknown 0x10 0x60) ∷ readAs (Of fieldTwo) (control.Command EraseDisplayedMemory)
+    ∷ readAs (Of fieldOne) (control.Command EraseDisplayedMemory) ∷ readAs Absent (control.Tab TabOffset1)
+    ∷ readAs Absent (control.MidRow (italic false)) ∷ heard (two-rows ∷ answer none ∷ two-rows ∷ [])
+    ∷ heard (two-rows ∷ answer none ∷ two-rows ∷ []) ∷ heard (answer none ∷ []) ∷ replies (popGives 0x80 0x80 ∷ [])
+    ∷ replies (accepted ∷ accepted ∷ popGives 0xC8 0x20 ∷ popGives 0x92 0x20 ∷ [])
+    ∷ replies (accepted ∷ popGives 0x20 0x80 ∷ popGives 0x92 0x20 ∷ []) ∷ []
