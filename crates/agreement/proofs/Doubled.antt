@@ -26,7 +26,7 @@ use Rattle.sender.specs.declared.sender.Owed.{Owed}
 use Rattle.sender.specs.declared.sender.Sender.{Sender}
 
 -- a well-formed queue gives its pair
-popped-as : (q : Queue) → queue.wellFormed q ≡ true → popRing q .0 ≡ answer (pop (queue.view q) .pair)
+pub popped-as : (q : Queue) → queue.wellFormed q ≡ true → popRing q .0 ≡ answer (pop (queue.view q) .pair)
 unfolding popRing
 popped-as q e = rw e refl
 

@@ -6,5 +6,6 @@ pub mod Drains
 pub mod FrameRate
 pub mod Limits
 pub mod OneByOne
+pub mod QueuedCommands
 pub mod Refused
 pub mod TriedByHand

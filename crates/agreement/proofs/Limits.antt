@@ -25,6 +25,7 @@ use Rattle.event.specs.declared.event.Cea608.{Cea608}
 use Rattle.event.specs.declared.event.Cea608.the-variants as event
 use Rattle.event.specs.declared.mode.Mode.the-variants as mode
 use Rattle.queue.specs.Queue.{admit, pairOf, pop}
+use Rattle.queue.specs.Queueable.{queueable}
 use Rattle.queue.specs.Ring.{popRing, pushRing}
 use Rattle.queue.specs.Ring as ring
 use Rattle.receiver.specs.Reading.{answers, events, readOnce}
@@ -58,7 +59,7 @@ abbrev line : List Pair
 line = rollUp2 ∷ rollUp2 ∷ carriageReturn ∷ carriageReturn ∷ hi ∷ []
 
 pub what-is-sent : (sentBy programme freshSender ≡ line) × (queuePairs programme freshSender ≡ rollUp2 ∷ carriageReturn ∷ hi ∷ []) × EndsIdle programme
-unfolding ones onesIn writeCode inDomain admit pairOf pop pushRing popRing ring.wellFormed wellFormed pushSender send sendSender idleSender
+unfolding ones onesIn writeCode inDomain queueable admit pairOf pop pushRing popRing ring.wellFormed wellFormed pushSender send sendSender idleSender
 what-is-sent = (refl, refl, refl)
 
 pub what-is-meant : events (readOnce fresh (rollUp2 ∷ carriageReturn ∷ hi ∷ [])) ≡ modeEvent ∷ returnEvent ∷ hiEvent ∷ []
@@ -122,7 +123,7 @@ twoReturns =
     queueing (command CarriageReturn) ∷ queueing (command CarriageReturn) ∷ sending ∷ sending ∷ sending ∷ sending ∷ []
 
 pub a-stretch-of-four : (sentBy twoReturns freshSender ≡ carriageReturn ∷ carriageReturn ∷ carriageReturn ∷ carriageReturn ∷ []) × (queuePairs twoReturns freshSender ≡ carriageReturn ∷ carriageReturn ∷ [])
-unfolding ones onesIn writeCode inDomain admit pairOf pop pushRing popRing ring.wellFormed wellFormed pushSender send sendSender
+unfolding ones onesIn writeCode inDomain queueable admit pairOf pop pushRing popRing ring.wellFormed wellFormed pushSender send sendSender
 a-stretch-of-four = (refl, refl)
 
 pub two-corrupted-of-four-lose-a-command :

@@ -6,9 +6,10 @@ use lib.Count.{ones, onesIn}
 use Rattle.code.specs.Read.{readPair}
 use Rattle.code.specs.Write.{inDomain, writeCode}
 use Rattle.queue.specs.Queue.{admit, pairOf, pop}
+use Rattle.queue.specs.Queueable.{queueable}
 use Rattle.queue.specs.Ring.{popRing, pushRing, wellFormed}
 use Rattle.agreement.specs.TriedByHand.{pairsTried, try, whatTheyGive}
 
 pub tried-by-hand : map try pairsTried ≡ whatTheyGive
-unfolding readPair ones onesIn writeCode inDomain admit pairOf pop pushRing popRing wellFormed
+unfolding readPair ones onesIn writeCode inDomain queueable admit pairOf pop pushRing popRing wellFormed
 tried-by-hand = refl

@@ -4,4 +4,5 @@ pub mod Doubled
 pub mod FrameRate
 pub mod OneByOne
 pub mod Pairs
+pub mod QueuedCommands
 pub mod TriedByHand

@@ -1,8 +1,9 @@
--- What is known of every answer of the ring, whatever state was handed in: a popped pair has odd parity and is a
--- command where its first stripped byte is 10 to 1F, a count is at most 65, a pop of a queue that is not empty makes
--- progress, and twice as many pops as there are codes empty it.
+-- What is known of every answer of the ring, whatever state was handed in: a popped pair has odd parity, is read as a
+-- command where its first stripped byte is 10 to 1F, and has such a byte exactly where the pop took a two-byte code, or
+-- half a command first; a count is at most 65, a pop of a queue that is not empty makes progress, and twice as many pops
+-- as there are codes empty it.
 -- Assumes nothing.
-use mathlib.Core.Bool.{Bool, true, false, cond}
+use mathlib.Core.Bool.{Bool, true, false, cond, _||_}
 use mathlib.Core.List.{[]}
 use mathlib.Core.Path.{_≡_, refl, ap, sym, subst, _∙_}
 use Prim.Native.Nat.{ℕ, zero, suc, _*_, _≤_, _<_}
@@ -10,10 +11,9 @@ use native.Mathlib.Omega.{arith}
 use lib.ListN.{replicate}
 use Rattle.code.proofs.Written.{SentPair}
 use Rattle.code.specs.Outcome.{Outcome, answer, refused}
-use Rattle.code.specs.Parity.{stripped}
-use Rattle.code.specs.Read.{isCommand, readPair}
+use Rattle.code.specs.Read.{isCommandPair, readPair}
 use Rattle.code.specs.declared.pair.Pair.{Pair}
-use Rattle.queue.proofs.Commands.{popped-says-command}
+use Rattle.queue.proofs.Commands.{popped-is-a-command}
 use Rattle.queue.proofs.FirstInFirstOut.{calls-stay-good}
 use Rattle.queue.proofs.Fit.{at-most-65}
 use Rattle.queue.proofs.Pairs.{popped-command, popped-is-sent}
@@ -24,7 +24,7 @@ use Rattle.queue.specs.Good.{Good}
 use Rattle.queue.specs.Progress.{popTimes, work}
 use Rattle.queue.specs.Queue.{Queued, count, pop}
 use Rattle.queue.specs.Ring.{countRing, popRing, view, wellFormed}
-use Rattle.queue.specs.Sent.{readsCommand, sendsCommand}
+use Rattle.queue.specs.Sent.{halfCommandFirst, hasTwoByteCode, readsCommand}
 use Rattle.queue.specs.declared.ring.Queue.{Queue}
 
 -- an answer that is no refusal came from a well-formed state, and is the definition's
@@ -43,19 +43,19 @@ sent-pair-is-odd q p answered =
     let known = pop-answer q p (wellFormed q) refl answered in
     subst SentPair (sym (known .1)) (popped-is-sent (view q) (good-fits q (known .0)))
 
-pub sent-pair-is-command : (q : Queue) (p : Pair) → popRing q .0 ≡ answer p → readsCommand (readPair (p .0) (p .1)) ≡ isCommand (stripped (p .0))
-sent-pair-is-command q p answered =
+pub sent-pair-is-read : (q : Queue) (p : Pair) → popRing q .0 ≡ answer p → readsCommand (readPair (p .0) (p .1)) ≡ isCommandPair p
+sent-pair-is-read q p answered =
     let known = pop-answer q p (wellFormed q) refl answered in
-    subst (λ (x : Pair). readsCommand (readPair (x .0) (x .1)) ≡ isCommand (stripped (x .0))) (sym (known .1))
+    subst (λ (x : Pair). readsCommand (readPair (x .0) (x .1)) ≡ isCommandPair x) (sym (known .1))
     (popped-command (view q) (good-fits q (known .0)))
 
--- and it is one where the first code that the pop took is sent as a command
-pub sent-pair-says-command : (q : Queue) (p : Pair) → popRing q .0 ≡ answer p → isCommand (stripped (p .0)) ≡ sendsCommand (takenBy q)
-sent-pair-says-command q p answered =
+-- T-04: it is one exactly where the pop took a two-byte code, or half a command first
+pub sent-pair-is-a-command : (q : Queue) (p : Pair) → popRing q .0 ≡ answer p → isCommandPair p ≡ (hasTwoByteCode (takenBy q) || halfCommandFirst (takenBy q))
+sent-pair-is-a-command q p answered =
     let known = pop-answer q p (wellFormed q) refl answered in
-    ap (λ (x : Pair). isCommand (stripped (x .0))) (known .1)
-    ∙ popped-says-command (view q) (good-fits q (known .0))
-    ∙ sym (ap (λ (t : Bool). sendsCommand (cond t (pop (view q) .took) [])) (known .0))
+    ap isCommandPair (known .1)
+    ∙ popped-is-a-command (view q) (good-fits q (known .0))
+    ∙ sym (ap (λ (t : Bool). hasTwoByteCode (cond t (pop (view q) .took) []) || halfCommandFirst (cond t (pop (view q) .took) [])) (known .0))
 
 count-answer : (q : Queue) (n : ℕ) (t : Bool) → wellFormed q ≡ t → countRing q .0 ≡ answer n → n ≤ 65
 unfolding countRing

@@ -1,103 +1,184 @@
--- Which popped pairs a receiver reads as commands: those whose first code taken is one that is sent as a command, so
--- every control code but `Unknown`, and never a letter, 20 80 or 80 80. An `Unknown` is read by its own bytes. Two
--- cases show it: one before a letter can make a command, and one of two bytes can make text.
+-- The law of T-04: a pair that the queue gives is a command pair exactly where it was made of a two-byte code, which then
+-- went out alone and as it is written. Half a command that goes first is the one exception. The cases at the end show
+-- where 18 begins and ends, and the exception.
 -- Assumes nothing.
-use mathlib.Core.Bool.{Bool, true, false, cond, not, true≢false}
+use mathlib.Core.Bool.{Bool, true, false, cond, not, _||_, _&&_, true≢false}
 use mathlib.Core.List.{List, [], _∷_, _++_}
 use mathlib.Core.Option.{Option, none, some}
 use mathlib.Core.Path.{_≡_, refl, ap, sym, subst, _∙_}
 use Prim.Native.Nat.{ℕ}
+use borrow.Author.Tests.{not-true}
 use lib.Count.{ones, onesIn}
 use lib.Dec.{eqb}
+use lib.ListN.{replicate}
+use Rattle.code.proofs.Both.{both-left, both-right}
 use Rattle.code.proofs.CommandCodes.{written-says-command}
 use Rattle.code.proofs.Written.{domain-is-written, settled}
-use Rattle.code.specs.Channel.{channelOne}
-use Rattle.code.specs.Code.{byteLen}
+use Rattle.code.specs.Channel.{channelOne, channelTwo}
+use Rattle.code.specs.Code.{byteLen, needsBackspace}
 use Rattle.code.specs.Letter.{letterAt}
 use Rattle.code.specs.Outcome.{Outcome, answer, refused}
-use Rattle.code.specs.Parity.{stripped}
-use Rattle.code.specs.Read.{isCommand, readPair}
+use Rattle.code.specs.Read.{isCommandPair, readPair}
 use Rattle.code.specs.Write.{inDomain, isCommandCode, isCommandControl, pair, writeCode}
+use Rattle.code.specs.declared.channel.Channel.{Channel}
 use Rattle.code.specs.declared.code.Code.{Code}
 use Rattle.code.specs.declared.code.Code.the-variants as code
 use Rattle.code.specs.declared.color.Color.the-variants.{White}
 use Rattle.code.specs.declared.control.CodeField.the-variants.{Absent}
 use Rattle.code.specs.declared.control.Control.the-variants as control
-use Rattle.code.specs.declared.control.ControlCode.{ControlCode}
-use Rattle.code.specs.declared.letter.Letter.{Letter}
 use Rattle.code.specs.declared.pair.Pair.{Pair}
 use Rattle.code.specs.declared.preamble.PreambleType.the-variants as style
 use Rattle.queue.proofs.Order.{pop-takes-from-the-front}
 use Rattle.queue.proofs.Pairs.{popped-command}
-use Rattle.queue.proofs.Sends.{pop-sends-what-it-took}
-use Rattle.code.proofs.Both.{both-left, both-right}
+use Rattle.queue.proofs.Dressed.{queueable-is-in-domain, queueable-is-not-dressed}
+use Rattle.queue.proofs.Sends.{held-is-no-single, pop-sends-what-it-took}
 use Rattle.queue.specs.Calls.{Reply, listReplies, popping, pushing, toPop, toPush}
 use Rattle.queue.specs.Good.{Fit}
-use Rattle.queue.specs.Queue.{Queued, admit, byteOf, empty, inside, isAnswer, isInside, isNul, isSingle, mayWait, pairOf, pop, queued, sent}
+use Rattle.queue.specs.Queue.{Pop, Queued, admit, byteOf, empty, inside, isNul, isSingle, mayWait, pairOf, pop, popCommand, popHeld, popSingle, popTwo, popWaiting, queued, sent}
+use Rattle.queue.specs.Queueable.{isAnswer, isQueueable, queueable}
 use Rattle.queue.specs.Ring.{allMayWait}
-use Rattle.queue.specs.Sent.{pairFor, readsCommand, sendsCommand}
+use Rattle.queue.specs.Sent.{commandPairs, halfCommandFirst, hasTwoByteCode, isHalfCommand, noHalfCommand, pairFor, readsCommand, twoBytePairs}
 
--- a code in the domain goes out with a first byte of 10 to 1F exactly where it is one that is sent as a command
-says : (c : Code) (o : Outcome (Pair × ℕ)) → writeCode c ≡ o → isAnswer (settled o) ≡ true → isCommand (stripped (sent o .0)) ≡ isCommandCode c
-says c (answer x) e inside = written-says-command c (x .0) (x .1) e
-says c (refused n) e inside = absurd (true≢false (sym inside))
+-- a code that may be queued goes out with a first byte of 10 to 1F exactly where it is one that is sent as a command
+says : (c : Code) (o : Outcome (Pair × ℕ)) → writeCode c ≡ o → isAnswer (settled o) ≡ true → isCommandPair (sent o) ≡ isCommandCode c
+says c (answer x) e can = written-says-command c (x .0) (x .1) e
+says c (refused n) e can = absurd (true≢false (sym can))
 
-pub code-says-command : (c : Code) → isInside c ≡ true → isCommand (stripped (pairOf c .0)) ≡ isCommandCode c
+code-says : (c : Code) → isQueueable c ≡ true → isCommandPair (pairOf c) ≡ isCommandCode c
 unfolding pairOf
-code-says-command c e = says c (writeCode c) refl (ap isAnswer (sym (domain-is-written c)) ∙ e)
+code-says c e = says c (writeCode c) refl (ap isAnswer (sym (domain-is-written c)) ∙ queueable-is-in-domain c e)
 
--- the first code of a list, if there is one, is in the domain
-abbrev FirstInside : List Code → Type 0
-FirstInside [] = Unit
-FirstInside (x ∷ l) = isInside x ≡ true
+-- which it is where it has two bytes, or is half a command
+undressed : (t : Bool) → not t ≡ false → t ≡ true
+undressed true e = refl
+undressed false e = sym e
 
-fit-inside : (l : List Code) (h : Option Code) → Fit (queued l h) → FirstInside (inside (queued l h))
-fit-inside l (some c) f = both-right (eqb (byteLen c) 2) (isInside c) (f .held)
-fit-inside [] none f = tt
-fit-inside (x ∷ l) none f =
-    both-right (not (isNul x)) (isInside x) (both-left (mayWait x) (allMayWait l) (f .codes))
+sent-as-command : (c : Code) → isQueueable c ≡ true → isCommandCode c ≡ (not (isSingle c) || isHalfCommand c)
+sent-as-command code.Nul e = refl
+sent-as-command (code.Control c) e =
+    undressed (isCommandControl (c .control)) (queueable-is-not-dressed (code.Control c) e)
+sent-as-command (code.Letter l) e = refl
+sent-as-command (code.Unknown b) e = refl
 
-front-inside : (taken left : List Code) → FirstInside (taken ++ left) → FirstInside taken
-front-inside [] left first = tt
-front-inside (x ∷ taken) left first = first
+pub code-is-a-command : (c : Code) → isQueueable c ≡ true → isCommandPair (pairOf c) ≡ (not (isSingle c) || isHalfCommand c)
+code-is-a-command c e = code-says c e ∙ sent-as-command c e
 
-taken-inside : (v : Queued) → Fit v → FirstInside (pop v .took)
-taken-inside v f =
-    front-inside (pop v .took) (inside (pop v .next))
-    (subst FirstInside (pop-takes-from-the-front v) (fit-inside (v .waiting) (v .held) f))
+-- the first code of a list, if there is one, may be queued; and whether it makes a command pair
+abbrev FirstQueueable : List Code → Type 0
+FirstQueueable [] = Unit
+FirstQueueable (x ∷ l) = isQueueable x ≡ true
+
+abbrev firstIsACommand : List Code → Bool
+firstIsACommand [] = false
+firstIsACommand (x ∷ l) = not (isSingle x) || isHalfCommand x
+
+fit-queueable : (l : List Code) (h : Option Code) → Fit (queued l h) → FirstQueueable (inside (queued l h))
+fit-queueable l (some c) f = both-right (eqb (byteLen c) 2) (isQueueable c) (f .held)
+fit-queueable [] none f = tt
+fit-queueable (x ∷ l) none f =
+    both-right (not (isNul x)) (isQueueable x) (both-left (mayWait x) (allMayWait l) (f .codes))
+
+front-queueable : (taken left : List Code) → FirstQueueable (taken ++ left) → FirstQueueable taken
+front-queueable [] left first = tt
+front-queueable (x ∷ taken) left first = first
+
+taken-queueable : (v : Queued) → Fit v → FirstQueueable (pop v .took)
+taken-queueable v f =
+    front-queueable (pop v .took) (inside (pop v .next))
+    (subst FirstQueueable (pop-takes-from-the-front v) (fit-queueable (v .waiting) (v .held) f))
 
 -- alone or beside another, a code's own byte goes out first
-alone-first : (t : Bool) (x : Code) → cond t (pair (byteOf x) 0x80) (pairOf x) .0 ≡ byteOf x
+alone-first : (t : Bool) (x : Code) → isCommandPair (cond t (pair (byteOf x) 0x80) (pairOf x)) ≡ isCommandPair (pairOf x)
 alone-first true x = refl
 alone-first false x = refl
 
-pair-says : (taken : List Code) (h : Option Code) → FirstInside taken → isCommand (stripped (pairFor taken h .0)) ≡ sendsCommand taken
+pair-says : (taken : List Code) (h : Option Code) → FirstQueueable taken → isCommandPair (pairFor taken h) ≡ firstIsACommand taken
 pair-says [] none first = refl
 pair-says [] (some c) first = refl
-pair-says (x ∷ []) none first = ap (λ (b : ℕ). isCommand (stripped b)) (alone-first (isSingle x) x) ∙ code-says-command x first
-pair-says (x ∷ []) (some c) first = code-says-command x first
-pair-says (x ∷ y ∷ rest) h first = code-says-command x first
+pair-says (x ∷ []) none first = alone-first (isSingle x) x ∙ code-is-a-command x first
+pair-says (x ∷ []) (some c) first = code-is-a-command x first
+pair-says (x ∷ y ∷ rest) h first = code-is-a-command x first
 
--- a popped pair has a first byte of 10 to 1F exactly where the first code taken is sent as a command
-pub popped-says-command : (v : Queued) → Fit v → isCommand (stripped (pop v .pair .0)) ≡ sendsCommand (pop v .took)
-popped-says-command v f =
-    ap (λ (p : Pair). isCommand (stripped (p .0))) (pop-sends-what-it-took v f)
-    ∙ pair-says (pop v .took) (pop v .next .held) (taken-inside v f)
+-- what a pair is made of: single codes alone, or one two-byte code, as that is written
+pub data MadeOf (p : Pair) : List Code → Type 0 where
+  of-singles : {l : List Code} → hasTwoByteCode l ≡ false → MadeOf p l
+  of-two-bytes : (c : Code) → isSingle c ≡ false → p ≡ pairOf c → MadeOf p (c ∷ [])
 
--- and is read as a command there, and nowhere else
-pub popped-is-read : (v : Queued) → Fit v → readsCommand (readPair (pop v .pair .0) (pop v .pair .1)) ≡ sendsCommand (pop v .took)
-popped-is-read v f = popped-command v f ∙ popped-says-command v f
+abbrev Made : Pop → Type 0
+Made p = MadeOf (p .pair) (p .took)
 
--- a mid-row code, symbol, command, tab or preamble that goes out makes a command pair
-pub control-makes-a-command : (v : Queued) → Fit v → (c : ControlCode) (rest : List Code) → isCommandControl (c .control) ≡ true → pop v .took ≡ code.Control c ∷ rest → isCommand (stripped (pop v .pair .0)) ≡ true
-control-makes-a-command v f c rest e taken = popped-says-command v f ∙ ap sendsCommand taken ∙ e
+command-made : (x : Code) (rest : List Code) (t : Bool) → needsBackspace x ≡ t → isSingle x ≡ false → Made (popCommand x rest)
+command-made x rest true e two = rw e (of-singles refl)
+command-made x rest false e two = rw e (of-two-bytes x two refl)
 
--- a letter first, or 20 80 or 80 80 with nothing taken, makes none
-pub letter-makes-no-command : (v : Queued) → Fit v → (l : Letter) (rest : List Code) → pop v .took ≡ code.Letter l ∷ rest → isCommand (stripped (pop v .pair .0)) ≡ false
-letter-makes-no-command v f l rest taken = popped-says-command v f ∙ ap sendsCommand taken
+two-made : (x y : Code) (rest : List Code) (t : Bool) → isSingle y ≡ t → isSingle x ≡ true → Made (popTwo x y rest)
+two-made x y rest true e single = rw e (of-singles {l = x ∷ y ∷ []} (rw (single, e) refl))
+two-made x y rest false e single = rw e (of-singles {l = x ∷ []} (rw single refl))
 
-pub nothing-makes-no-command : (v : Queued) → Fit v → pop v .took ≡ [] → isCommand (stripped (pop v .pair .0)) ≡ false
-nothing-makes-no-command v f taken = popped-says-command v f ∙ ap sendsCommand taken
+single-made : (x : Code) (rest : List Code) → isSingle x ≡ true → Made (popSingle x rest)
+single-made x [] single = of-singles {l = x ∷ []} (rw single refl)
+single-made x (y ∷ rest) single = two-made x y rest (isSingle y) refl single
+
+waiting-made : (x : Code) (rest : List Code) (t : Bool) → isSingle x ≡ t → Made (popWaiting (x ∷ rest))
+waiting-made x rest true e = rw e (single-made x rest e)
+waiting-made x rest false e = rw e (command-made x rest (needsBackspace x) refl e)
+
+held-made : (h : Option Code) (l : List Code) → Fit (queued l h) → Made (popHeld h l)
+held-made (some c) l f = of-two-bytes c (held-is-no-single c (f .held)) refl
+held-made none [] f = of-singles refl
+held-made none (x ∷ rest) f = waiting-made x rest (isSingle x) refl
+
+pub made-of : (v : Queued) → Fit v → MadeOf (pop v .pair) (pop v .took)
+unfolding pop
+made-of v f = held-made (v .held) (v .waiting) f
+
+-- so the first code tells whether there is a two-byte code
+first-tells : (t u h : Bool) → (t || u) ≡ false → (t || h) ≡ ((t || u) || h)
+first-tells true u h e = refl
+first-tells false u h e = sym (ap (λ (x : Bool). x || h) e)
+
+one-tells : (t h : Bool) → (t || h) ≡ ((t || false) || h)
+one-tells true h = refl
+one-tells false h = refl
+
+by-all : {p : Pair} {l : List Code} → MadeOf p l → firstIsACommand l ≡ (hasTwoByteCode l || halfCommandFirst l)
+by-all (of-singles {l = []} e) = refl
+by-all (of-singles {l = x ∷ l} e) = first-tells (not (isSingle x)) (hasTwoByteCode l) (isHalfCommand x) e
+by-all (of-two-bytes c two same) = one-tells (not (isSingle c)) (isHalfCommand c)
+
+pub popped-is-a-command : (v : Queued) → Fit v → isCommandPair (pop v .pair) ≡ (hasTwoByteCode (pop v .took) || halfCommandFirst (pop v .took))
+popped-is-a-command v f =
+    ap isCommandPair (pop-sends-what-it-took v f)
+    ∙ pair-says (pop v .took) (pop v .next .held) (taken-queueable v f)
+    ∙ by-all (made-of v f)
+
+-- and it is read as a command there, and nowhere else
+pub popped-is-read : (v : Queued) → Fit v → readsCommand (readPair (pop v .pair .0) (pop v .pair .1)) ≡ (hasTwoByteCode (pop v .took) || halfCommandFirst (pop v .took))
+popped-is-read v f = popped-command v f ∙ popped-is-a-command v f
+
+-- without half a command: the command pairs of a pop are those of the two-byte codes that it took
+no-half-first : (l : List Code) → noHalfCommand l ≡ true → halfCommandFirst l ≡ false
+no-half-first [] e = refl
+no-half-first (c ∷ cs) e = not-true (isHalfCommand c) (both-left (not (isHalfCommand c)) (noHalfCommand cs) e)
+
+single-by : (c : Code) (cs : List Code) (t : Bool) → isSingle c ≡ t → (not t || hasTwoByteCode cs) ≡ false → (hasTwoByteCode cs ≡ false → twoBytePairs cs ≡ []) → twoBytePairs (c ∷ cs) ≡ []
+single-by c cs true single e rest = rw single (rest e)
+single-by c cs false two e rest = absurd (true≢false e)
+
+none-of-singles : (l : List Code) → hasTwoByteCode l ≡ false → twoBytePairs l ≡ []
+none-of-singles [] e = refl
+none-of-singles (c ∷ cs) e = single-by c cs (isSingle c) refl e (none-of-singles cs)
+
+commands-by : {p : Pair} {l : List Code} → MadeOf p l → isCommandPair p ≡ (hasTwoByteCode l || halfCommandFirst l) → noHalfCommand l ≡ true → commandPairs (p ∷ []) ≡ twoBytePairs l
+commands-by {p} (of-singles {l = l} e) told none-half =
+    let no : isCommandPair p ≡ false = told ∙ ap (λ (t : Bool). t || halfCommandFirst l) e ∙ no-half-first l none-half in
+    rw no (sym (none-of-singles l e))
+commands-by {p} (of-two-bytes c two same) told none-half =
+    let yes : isCommandPair p ≡ true = told ∙ ap (λ (t : Bool). (not t || false) || isHalfCommand c) two in
+    rw (yes, two) (ap (λ (x : Pair). x ∷ []) same)
+
+pub pop-gives-its-commands : (v : Queued) → Fit v → noHalfCommand (pop v .took) ≡ true → commandPairs (pop v .pair ∷ []) ≡ twoBytePairs (pop v .took)
+pop-gives-its-commands v f none-half = commands-by (made-of v f) (popped-is-a-command v f) none-half
 
 abbrev accepted : Reply
 accepted = toPush (answer tt)
@@ -105,10 +186,7 @@ accepted = toPush (answer tt)
 abbrev letter-A : Code
 letter-A = code.Letter (letterAt 0x21)
 
-abbrev letter-B : Code
-letter-B = code.Letter (letterAt 0x22)
-
--- `Unknown` 14 before A: 94 C1, which a receiver reads as a preamble, row 13 in white, underlined
+-- the exception: `Unknown` 14 before A goes out as 94 C1, which a receiver reads as a preamble, row 13 in white, underlined
 abbrev row-13-underlined : Code
 row-13-underlined = code.Control (record {
   field = Absent;
@@ -116,18 +194,32 @@ row-13-underlined = code.Control (record {
   control = control.Preamble (record { row = 13; underline = true; ty = style.Color White });
 })
 
-pub two-singles-make-a-command :
+pub half-a-command-makes-a-command :
     (listReplies (pushing (code.Unknown 0x14) ∷ pushing letter-A ∷ popping ∷ []) empty ≡ accepted ∷ accepted ∷ toPop (answer (pair 0x94 0xC1)) ∷ [])
     × (readPair 0x94 0xC1 ≡ answer (row-13-underlined, code.Nul))
-unfolding ones onesIn writeCode inDomain admit pairOf pop readPair
-two-singles-make-a-command = (refl, refl)
+unfolding ones onesIn writeCode inDomain queueable admit pairOf pop readPair
+half-a-command-makes-a-command = (refl, refl)
 
--- a two-byte `Unknown` 41 42: C1 C2, which a receiver reads as A and B
-abbrev unknown-41-42 : Code
-unknown-41-42 = code.Control (record { field = Absent; channel = channelOne; control = control.Unknown 0x41 0x42 })
+-- the two-byte `Unknown` of a channel
+abbrev unknown : Channel → ℕ → ℕ → Code
+unknown ch a b = code.Control (record { field = Absent; channel = ch; control = control.Unknown a b })
 
-pub a-two-byte-code-makes-text :
-    (listReplies (pushing unknown-41-42 ∷ popping ∷ []) empty ≡ accepted ∷ toPop (answer (pair 0xC1 0xC2)) ∷ [])
-    × (readPair 0xC1 0xC2 ≡ answer (letter-A, letter-B))
-unfolding ones onesIn writeCode inDomain admit pairOf pop readPair
-a-two-byte-code-makes-text = (refl, refl)
+-- 41 42 would go out as the letters A and B: it is refused 18, and nothing goes out
+pub text-is-refused : listReplies (pushing (unknown channelOne 0x41 0x42) ∷ popping ∷ []) empty ≡ toPush (refused 18) ∷ toPop (answer (pair 0x80 0x80)) ∷ []
+unfolding ones onesIn writeCode inDomain queueable admit pairOf pop
+text-is-refused = refl
+
+-- the byte is taken as it is stored: 0F and 20 are refused on either channel, 10 and 1F accepted
+pub first-bytes :
+    (listReplies (pushing (unknown channelTwo 0x0F 0x41) ∷ pushing (unknown channelOne 0x20 0x41) ∷ []) empty ≡ toPush (refused 18) ∷ toPush (refused 18) ∷ [])
+    × (listReplies (pushing (unknown channelTwo 0x10 0x41) ∷ popping ∷ []) empty ≡ accepted ∷ toPop (answer (pair 0x98 0xC1)) ∷ [])
+    × (listReplies (pushing (unknown channelOne 0x1F 0x41) ∷ popping ∷ []) empty ≡ accepted ∷ toPop (answer (pair 0x1F 0xC1)) ∷ [])
+unfolding ones onesIn writeCode inDomain queueable admit pairOf pop
+first-bytes = (refl, refl, refl)
+
+-- 2 comes before 18, and 18 before 7
+pub between-2-and-7 :
+    (listReplies (pushing (unknown channelOne 0x41 0x80) ∷ []) empty ≡ toPush (refused 2) ∷ [])
+    × (listReplies (replicate 64 (pushing letter-A) ++ (pushing (unknown channelOne 0x41 0x42) ∷ pushing letter-A ∷ [])) empty ≡ replicate 64 accepted ++ (toPush (refused 18) ∷ toPush (refused 7) ∷ []))
+unfolding inDomain queueable admit
+between-2-and-7 = (refl, refl)

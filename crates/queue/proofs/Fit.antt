@@ -12,12 +12,12 @@ use lib.ListN.{length, length-append}
 use Rattle.code.proofs.Lengths.{not-one-is-two}
 use Rattle.code.specs.Code.{needsBackspace}
 use Rattle.code.specs.Outcome.{Outcome, answer, refused}
-use Rattle.code.specs.Write.{inDomain}
 use Rattle.code.specs.declared.code.Code.{Code}
 use Rattle.code.proofs.Both.{both-left, both-right}
 use Rattle.queue.proofs.WellFormed.{one-held, stored-has-room}
 use Rattle.queue.specs.Good.{Fit}
-use Rattle.queue.specs.Queue.{Queued, queued, admit, admitBy, count, empty, entered, isAnswer, isFull, isInside, isNul, isSingle, mayBeHeld, mayWait, pop, popCommand, popHeld, popSingle, popTwo, popWaiting, push}
+use Rattle.queue.specs.Queue.{Queued, queued, admit, admitBy, count, empty, entered, isFull, isNul, isSingle, mayBeHeld, mayWait, pop, popCommand, popHeld, popSingle, popTwo, popWaiting, push}
+use Rattle.queue.specs.Queueable.{isAnswer, isQueueable, queueable}
 use Rattle.queue.specs.Ring.{allMayWait}
 
 pub empty-fits : Fit empty
@@ -35,7 +35,7 @@ kept false (refused k) full e = let z : _≡_ {A = ℕ} 0 1 = cc in absurd (omeg
 
 pub stored-may-wait : (c : Code) (n : ℕ) → admit c n ≡ answer true → mayWait c ≡ true
 unfolding admit
-stored-may-wait c n e = kept (isNul c) (inDomain c) (isFull n) e
+stored-may-wait c n e = kept (isNul c) (queueable c) (isFull n) e
 
 all-behind : (l : List Code) (c : Code) → allMayWait l ≡ true → mayWait c ≡ true → allMayWait (l ++ (c ∷ [])) ≡ true
 all-behind [] c all one = rw one
@@ -60,7 +60,7 @@ push-fits c v f = entered-fits (admit c (length (v .waiting))) c v refl f
 
 -- a waiting code that is no single code may be held
 pub command-may-be-held : (c : Code) → isSingle c ≡ false → mayWait c ≡ true → mayBeHeld c ≡ true
-command-may-be-held c e may = rw (not-one-is-two c e) (both-right (not (isNul c)) (isInside c) may)
+command-may-be-held c e may = rw (not-one-is-two c e) (both-right (not (isNul c)) (isQueueable c) may)
 
 -- the waiting codes with n places to spare
 record Spare (n : ℕ) (l : List Code) : Type 0 where

@@ -1,5 +1,7 @@
 pub mod Answers
 pub mod Commands
+pub mod Dressed
+pub mod FirstByte
 pub mod FirstInFirstOut
 pub mod Fit
 pub mod IllFormed
@@ -8,6 +10,7 @@ pub mod Order
 pub mod Pairs
 pub mod Places
 pub mod Progress
+pub mod ReadAgain
 pub mod Refines
 pub mod Sends
 pub mod TriedByHand

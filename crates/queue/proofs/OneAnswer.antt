@@ -29,12 +29,14 @@ abbrev pushAnswerOf : Outcome Unit → PushAnswer
 pushAnswerOf (answer u) = push-answer.Accepted
 pushAnswerOf (refused n) =
     cond (eqb n 2) push-answer.UnknownByte
-    (cond (eqb n 3) push-answer.NoSuchRow (cond (eqb n 7) push-answer.Full push-answer.IllFormed))
+    (cond (eqb n 3) push-answer.NoSuchRow
+    (cond (eqb n 18) push-answer.NotACommand (cond (eqb n 7) push-answer.Full push-answer.IllFormed)))
 
 push-answer-found : (a : PushAnswer) → pushAnswerOf (pushAnswerOutcome a) ≡ a
 push-answer-found push-answer.Accepted = refl
 push-answer-found push-answer.UnknownByte = refl
 push-answer-found push-answer.NoSuchRow = refl
+push-answer-found push-answer.NotACommand = refl
 push-answer-found push-answer.Full = refl
 push-answer-found push-answer.IllFormed = refl
 

@@ -10,12 +10,12 @@ use borrow.Author.Tests.{not-true}
 use lib.ListN.{length}
 use Rattle.code.specs.Code.{needsBackspace}
 use Rattle.code.specs.Outcome.{Outcome, answer, refused}
-use Rattle.code.specs.Write.{inDomain}
 use Rattle.code.specs.declared.code.Code.{Code}
 use Rattle.queue.proofs.Fit.{stored-may-wait}
 use Rattle.code.proofs.Both.{both-left}
 use Rattle.queue.specs.Calls.{letIn}
-use Rattle.queue.specs.Queue.{Pop, Queued, admit, admitBy, entered, heldCodes, inside, isFull, isInside, isNul, isSingle, pop, popCommand, popHeld, popSingle, popTwo, popWaiting, push, queued}
+use Rattle.queue.specs.Queue.{Pop, Queued, admit, admitBy, entered, heldCodes, inside, isFull, isNul, isSingle, pop, popCommand, popHeld, popSingle, popTwo, popWaiting, push, queued}
+use Rattle.queue.specs.Queueable.{isQueueable, queueable}
 
 -- of a pop: what was inside is what it took, then what is inside now
 abbrev Keeps : List Code → Pop → Type 0
@@ -48,7 +48,7 @@ pop-takes-from-the-front v = held-keeps (v .held) (v .waiting)
 
 -- a stored code is not NUL, and what is accepted without being stored is
 pub stored-is-not-nul : (c : Code) (n : ℕ) → admit c n ≡ answer true → isNul c ≡ false
-stored-is-not-nul c n e = not-true (isNul c) (both-left (not (isNul c)) (isInside c) (stored-may-wait c n e))
+stored-is-not-nul c n e = not-true (isNul c) (both-left (not (isNul c)) (isQueueable c) (stored-may-wait c n e))
 
 passed : (nul : Bool) (o : Outcome Unit) (full : Bool) → admitBy nul o full ≡ answer false → nul ≡ true
 passed true o full e = refl
@@ -58,7 +58,7 @@ passed false (refused k) full e = let z : _≡_ {A = ℕ} 0 1 = cc in absurd (om
 
 pub passed-is-nul : (c : Code) (n : ℕ) → admit c n ≡ answer false → isNul c ≡ true
 unfolding admit
-passed-is-nul c n e = passed (isNul c) (inDomain c) (isFull n) e
+passed-is-nul c n e = passed (isNul c) (queueable c) (isFull n) e
 
 entered-behind : (o : Outcome Bool) (c : Code) (v : Queued) → admit c (length (v .waiting)) ≡ o → inside (entered o (queued (v .waiting ++ (c ∷ [])) (v .held)) v .1) ≡ inside v ++ letIn c (entered o (queued (v .waiting ++ (c ∷ [])) (v .held)) v .0)
 entered-behind (answer true) c v e =

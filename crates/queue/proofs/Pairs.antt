@@ -19,8 +19,10 @@ use Rattle.code.specs.Write.{pair, writeCode}
 use Rattle.code.specs.declared.code.Code.{Code}
 use Rattle.code.specs.declared.pair.Pair.{Pair}
 use Rattle.code.proofs.Both.{both-left, both-right}
+use Rattle.queue.proofs.Dressed.{queueable-is-in-domain}
 use Rattle.queue.specs.Good.{Fit}
-use Rattle.queue.specs.Queue.{Queued, isAnswer, isInside, isNul, isSingle, mayWait, pairOf, pop, popCommand, popHeld, popSingle, popTwo, popWaiting, queued, sent}
+use Rattle.queue.specs.Queue.{Queued, isNul, isSingle, mayWait, pairOf, pop, popCommand, popHeld, popSingle, popTwo, popWaiting, queued, sent}
+use Rattle.queue.specs.Queueable.{isAnswer, isQueueable}
 use Rattle.queue.specs.Ring.{allMayWait}
 use Rattle.queue.specs.Sent.{readsCommand}
 
@@ -28,19 +30,21 @@ written : (c : Code) (o : Outcome (Pair × ℕ)) → writeCode c ≡ o → isAns
 written c (answer x) e inside = written-is-sent c (x .0) (x .1) e .0
 written c (refused n) e inside = let z : _≡_ {A = ℕ} 0 1 = cc in absurd (omega arith)
 
--- the pair of a code in the domain
-pub code-is-sent : (c : Code) → isInside c ≡ true → SentPair (pairOf c)
+-- the pair of a code that may be queued
+pub code-is-sent : (c : Code) → isQueueable c ≡ true → SentPair (pairOf c)
 unfolding pairOf
-code-is-sent c e = written c (writeCode c) refl (ap isAnswer (sym (domain-is-written c)) ∙ e)
+code-is-sent c e =
+    written c (writeCode c) refl (ap isAnswer (sym (domain-is-written c)) ∙ queueable-is-in-domain c e)
 
--- so that a code in the domain goes out as it is written, and never as the 80 80 of one that cannot be
+-- so that it goes out as it is written, and never as the 80 80 of a code that cannot be
 as-written : (c : Code) (o : Outcome (Pair × ℕ)) → writeCode c ≡ o → isAnswer (settled o) ≡ true → writeCode c ≡ answer (sent o, byteLen c)
 as-written c (answer x) e inside = e ∙ ap {B = Outcome (Pair × ℕ)} (λ (n : ℕ). answer (x .0, n)) (written-is-sent c (x .0) (x .1) e .1)
 as-written c (refused n) e inside = let z : _≡_ {A = ℕ} 0 1 = cc in absurd (omega arith)
 
-pub code-goes-out-as-written : (c : Code) → isInside c ≡ true → writeCode c ≡ answer (pairOf c, byteLen c)
+pub code-goes-out-as-written : (c : Code) → isQueueable c ≡ true → writeCode c ≡ answer (pairOf c, byteLen c)
 unfolding pairOf
-code-goes-out-as-written c e = as-written c (writeCode c) refl (ap isAnswer (sym (domain-is-written c)) ∙ e)
+code-goes-out-as-written c e =
+    as-written c (writeCode c) refl (ap isAnswer (sym (domain-is-written c)) ∙ queueable-is-in-domain c e)
 
 space-sent : Sent 0x20
 unfolding ones onesIn
@@ -50,11 +54,11 @@ space-or-nul : (t : Bool) → Sent (cond t 0x20 0x80)
 space-or-nul true = space-sent
 space-or-nul false = nul-sent
 
-may-inside : (c : Code) → mayWait c ≡ true → isInside c ≡ true
-may-inside c e = both-right (not (isNul c)) (isInside c) e
+may-queueable : (c : Code) → mayWait c ≡ true → isQueueable c ≡ true
+may-queueable c e = both-right (not (isNul c)) (isQueueable c) e
 
 waiting-sent : (c : Code) → mayWait c ≡ true → SentPair (pairOf c)
-waiting-sent c e = code-is-sent c (may-inside c e)
+waiting-sent c e = code-is-sent c (may-queueable c e)
 
 command-sent : (x : Code) (rest : List Code) (t : Bool) → needsBackspace x ≡ t → mayWait x ≡ true → SentPair (popCommand x rest .pair)
 command-sent x rest true e may = rw e (record { first = space-sent; second = nul-sent })
@@ -78,7 +82,7 @@ list-sent x rest false e all =
     rw e (command-sent x rest (needsBackspace x) refl (both-left (mayWait x) (allMayWait rest) all))
 
 held-sent : (h : Option Code) (l : List Code) → Fit (queued l h) → SentPair (popHeld h l .pair)
-held-sent (some c) l f = code-is-sent c (both-right (eqb (byteLen c) 2) (isInside c) (f .held))
+held-sent (some c) l f = code-is-sent c (both-right (eqb (byteLen c) 2) (isQueueable c) (f .held))
 held-sent none [] f = record { first = nul-sent; second = nul-sent }
 held-sent none (x ∷ rest) f = list-sent x rest (isSingle x) refl (f .codes)
 

@@ -12,15 +12,16 @@ use Rattle.code.specs.Code.{byteLen, needsBackspace}
 use Rattle.code.specs.declared.code.Code.{Code}
 use Rattle.code.proofs.Both.{both-left}
 use Rattle.queue.specs.Good.{Fit}
-use Rattle.queue.specs.Queue.{isInside, isSingle, mayBeHeld, Pop, pop, popCommand, popHeld, popSingle, popTwo, popWaiting, Queued, queued}
+use Rattle.queue.specs.Queue.{isSingle, mayBeHeld, Pop, pop, popCommand, popHeld, popSingle, popTwo, popWaiting, Queued, queued}
+use Rattle.queue.specs.Queueable.{isQueueable}
 use Rattle.queue.specs.Sent.{pairFor}
 
 abbrev Told : Pop → Type 0
 Told p = p .pair ≡ pairFor (p .took) (p .next .held)
 
 -- a code that may be held is no single code
-held-is-no-single : (c : Code) → mayBeHeld c ≡ true → isSingle c ≡ false
-held-is-no-single c may = ap (λ (n : ℕ). eqb n 1) (eqb-true (byteLen c) 2 (both-left (eqb (byteLen c) 2) (isInside c) may))
+pub held-is-no-single : (c : Code) → mayBeHeld c ≡ true → isSingle c ≡ false
+held-is-no-single c may = ap (λ (n : ℕ). eqb n 1) (eqb-true (byteLen c) 2 (both-left (eqb (byteLen c) 2) (isQueueable c) may))
 
 two-told : (x y : Code) (rest : List Code) (t : Bool) → isSingle y ≡ t → Told (popTwo x y rest)
 two-told x y rest true e = rw e

@@ -15,6 +15,7 @@ use Rattle.queue.proofs.FirstInFirstOut.{ring-answers-as-the-list}
 use Rattle.queue.proofs.Refines.{fresh-good}
 use Rattle.queue.specs.Calls.{Call, Reply, counting, listReplies, popping, pushing, ringReplies, toCount, toPop, toPush}
 use Rattle.queue.specs.Queue.{admit, empty, pairOf, pop}
+use Rattle.queue.specs.Queueable.{queueable}
 use Rattle.queue.specs.Ring.{freshRing}
 
 abbrev accepted : Reply
@@ -36,7 +37,7 @@ Tried replies =
     × (replies (replicate 64 (pushing letter-H) ++ (pushing letter-H ∷ pushing code.Nul ∷ counting ∷ [])) ≡ replicate 64 accepted ++ (toPush (refused 7) ∷ accepted ∷ toCount (answer 64) ∷ []))
 
 pub tried-by-hand : Tried (λ (cs : List Call). listReplies cs empty)
-unfolding ones onesIn writeCode inDomain admit pairOf pop
+unfolding ones onesIn writeCode inDomain queueable admit pairOf pop
 tried-by-hand = (refl, refl)
 
 -- equal replies pass alike, and from a fresh queue on the ring replies as the list does

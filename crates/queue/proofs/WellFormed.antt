@@ -11,10 +11,10 @@ use lib.Dec.{leb, lit≤, ltb}
 use lib.ListN.{length}
 use Rattle.code.proofs.Both.{both-left, both-right}
 use Rattle.code.specs.Outcome.{Outcome, answer, refused}
-use Rattle.code.specs.Write.{inDomain}
 use Rattle.code.specs.declared.code.Code.{Code}
 use Rattle.queue.proofs.Places.{first-waits}
 use Rattle.queue.specs.Queue.{admit, admitBy, entered, heldCodes, isFull, isNul, mayWait}
+use Rattle.queue.specs.Queueable.{queueable}
 use Rattle.queue.specs.Ring.{allMayWait, codeAt, codesFrom, heldFits, heldIn, pushRing, stored, waitingIn, wellFormed}
 use Rattle.queue.specs.declared.ring.Queue.{Queue}
 use Rattle.queue.specs.declared.ring.Slot.{Slot}
@@ -64,15 +64,15 @@ room false (refused k) full e = let z : _≡_ {A = ℕ} 0 1 = cc in absurd (omeg
 
 pub stored-has-room : (c : Code) (n : ℕ) → admit c n ≡ answer true → n < 64
 unfolding admit
-stored-has-room c n e = leb-false 64 n (room (isNul c) (inDomain c) (isFull n) e)
+stored-has-room c n e = leb-false 64 n (room (isNul c) (queueable c) (isFull n) e)
 
 -- an admission from its parts
-pub admission-is : (c : Code) (n : ℕ) {nul full : Bool} {d : Outcome Unit} {o : Outcome Bool} → o ≡ admitBy nul d full → nul ≡ isNul c → d ≡ inDomain c → full ≡ isFull n → o ≡ admit c n
+pub admission-is : (c : Code) (n : ℕ) {nul full : Bool} {d : Outcome Unit} {o : Outcome Bool} → o ≡ admitBy nul d full → nul ≡ isNul c → d ≡ queueable c → full ≡ isFull n → o ≡ admit c n
 unfolding admit
-admission-is c n {full = full} e nul-is domain-is full-is =
+admission-is c n {full = full} e nul-is may full-is =
     e
-    ∙ ap₂ (λ (t : Bool) (d : Outcome Unit). admitBy t d full) nul-is domain-is
-    ∙ ap (λ (t : Bool). admitBy (isNul c) (inDomain c) t) full-is
+    ∙ ap₂ (λ (t : Bool) (d : Outcome Unit). admitBy t d full) nul-is may
+    ∙ ap (λ (t : Bool). admitBy (isNul c) (queueable c) t) full-is
 
 -- what a push of a well-formed state gives, by its admission
 pub pushed-as : (q : Queue) (c : Code) → wellFormed q ≡ true → (o : Outcome Bool) → o ≡ admit c (q .waiting) → entered o (stored q c) q ≡ pushRing q c

@@ -1,3 +1,4 @@
+pub mod Queueable
 pub mod Queue
 pub mod Ring
 pub mod Admission

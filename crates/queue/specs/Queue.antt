@@ -1,5 +1,5 @@
 -- The queue as a list: the codes that wait, first in first out, and at most one that is held. Written from 01's section
--- "Queue and sender" and its refusals 2, 3 and 7; 47 CFR 79.101 has no queue.
+-- "Queue and sender" and its refusal 7; what may be queued is in `Queueable`. 47 CFR 79.101 has no queue.
 use Prim.Native.Nat.{ℕ, _+_}
 use mathlib.Core.Bool.{Bool, true, false, cond, _&&_, not}
 use mathlib.Core.List.{List, [], _∷_, _++_}
@@ -8,10 +8,11 @@ use lib.Dec.{eqb, leb}
 use lib.ListN.{length}
 use Rattle.code.specs.Code.{byteLen, needsBackspace}
 use Rattle.code.specs.Outcome.{Outcome, answer, refused}
-use Rattle.code.specs.Write.{inDomain, pair, writeCode}
+use Rattle.code.specs.Write.{pair, writeCode}
 use Rattle.code.specs.declared.code.Code.{Code}
 use Rattle.code.specs.declared.code.Code.the-variants as code
 use Rattle.code.specs.declared.pair.Pair.{Pair}
+use Rattle.queue.specs.Queueable.{isQueueable, queueable}
 
 pub record Queued : Type 0 where
   pub waiting : List Code
@@ -43,22 +44,14 @@ isNul (code.Control c) = false
 isNul (code.Letter l) = false
 isNul (code.Unknown b) = false
 
-abbrev pub isAnswer : Outcome Unit → Bool
-isAnswer (answer u) = true
-isAnswer (refused n) = false
-
--- a code in the domain of 2 and 3
-abbrev pub isInside : Code → Bool
-isInside c = isAnswer (inDomain c)
-
--- a code may wait if it is in the domain and not NUL, and be held if it is a two-byte code in the domain
+-- a code may wait if it may be queued and is not NUL, and be held if it is a two-byte code that may be queued
 abbrev pub mayWait : Code → Bool
-mayWait c = not (isNul c) && isInside c
+mayWait c = not (isNul c) && isQueueable c
 
 abbrev pub mayBeHeld : Code → Bool
-mayBeHeld c = eqb (byteLen c) 2 && isInside c
+mayBeHeld c = eqb (byteLen c) 2 && isQueueable c
 
--- A push. NUL is accepted and not stored; then 2 or 3; then 7: 64 codes are waiting. A held code is not counted.
+-- A push. NUL is accepted and not stored; then 2, 3 or 18; then 7: 64 codes are waiting. A held code is not counted.
 abbrev pub isFull : ℕ → Bool
 isFull n = leb 64 n
 
@@ -67,11 +60,11 @@ ifRoom full (answer u) = cond full (refused 7) (answer true)
 ifRoom full (refused k) = refused k
 
 abbrev pub admitBy : Bool → Outcome Unit → Bool → Outcome Bool
-admitBy nul domain full = cond nul (answer false) (ifRoom full domain)
+admitBy nul queueable full = cond nul (answer false) (ifRoom full queueable)
 
 -- whether a code that is accepted is stored, with n waiting
 unfoldable pub admit : Code → ℕ → Outcome Bool
-admit c n = admitBy (isNul c) (inDomain c) (isFull n)
+admit c n = admitBy (isNul c) (queueable c) (isFull n)
 
 -- what a push gives, and what it leaves: more where the code is stored, else the same
 abbrev pub entered : {A : Type 0} → Outcome Bool → A → A → Outcome Unit × A

@@ -108,6 +108,7 @@ abbrev pub pushAnswerOutcome : PushAnswer → Outcome Unit
 pushAnswerOutcome push-answer.Accepted = answer tt
 pushAnswerOutcome push-answer.UnknownByte = refused 2
 pushAnswerOutcome push-answer.NoSuchRow = refused 3
+pushAnswerOutcome push-answer.NotACommand = refused 18
 pushAnswerOutcome push-answer.Full = refused 7
 pushAnswerOutcome push-answer.IllFormed = refused 12
 

@@ -1,14 +1,17 @@
 -- The pair that stands for the codes that a pop took and the command that it then holds, from 01's section "Queue and
 -- sender": two single codes in their order; a single code with 0x80, or with 0x20 where the command now held needs a
 -- backspace; a command by itself; and with nothing taken 20 80 before the command now held, or padding. And which of
--- these pairs a receiver is to read as commands, and whether it reads a pair as one.
-use mathlib.Core.Bool.{Bool, false, cond, not}
+-- these pairs are to be command pairs, by T-04: those that were made of a two-byte code. Half a command is the one
+-- exception.
+use mathlib.Core.Bool.{Bool, true, false, cond, _||_, _&&_, not}
 use mathlib.Core.List.{List, [], _∷_}
 use mathlib.Core.Option.{Option, none, some}
 use Rattle.code.specs.Code.{needsBackspace}
 use Rattle.code.specs.Outcome.{Outcome, answer, refused}
-use Rattle.code.specs.Write.{isCommandCode, pair}
+use Rattle.code.specs.Read.{isCommand, isCommandPair}
+use Rattle.code.specs.Write.{pair}
 use Rattle.code.specs.declared.code.Code.{Code}
+use Rattle.code.specs.declared.code.Code.the-variants as code
 use Rattle.code.specs.declared.pair.Pair.{Pair}
 use Rattle.queue.specs.Queue.{byteOf, isSingle, pairOf}
 
@@ -19,12 +22,37 @@ pairFor (x ∷ []) none = cond (isSingle x) (pair (byteOf x) 0x80) (pairOf x)
 pairFor (x ∷ []) (some c) = pair (byteOf x) (cond (needsBackspace c) 0x20 0x80)
 pairFor (x ∷ y ∷ rest) h = pair (byteOf x) (byteOf y)
 
--- the first code that a pop took decides; with none taken, 20 80 and 80 80 are no commands
-abbrev pub sendsCommand : List Code → Bool
-sendsCommand [] = false
-sendsCommand (x ∷ rest) = isCommandCode x
-
 -- whether a pair that was read is a command
 abbrev pub readsCommand : Outcome (Code × Code) → Bool
 readsCommand (answer x) = not (isSingle (x .0))
 readsCommand (refused n) = false
+
+-- whether a two-byte code is among those taken
+abbrev pub hasTwoByteCode : List Code → Bool
+hasTwoByteCode [] = false
+hasTwoByteCode (c ∷ cs) = not (isSingle c) || hasTwoByteCode cs
+
+-- half a command: a one-byte `Unknown` of 10 to 1F, the first byte of a command without its second
+abbrev pub isHalfCommand : Code → Bool
+isHalfCommand code.Nul = false
+isHalfCommand (code.Control c) = false
+isHalfCommand (code.Letter l) = false
+isHalfCommand (code.Unknown b) = isCommand b
+
+-- the exception: half a command is the first of those taken, and so the first byte of the pair
+abbrev pub halfCommandFirst : List Code → Bool
+halfCommandFirst [] = false
+halfCommandFirst (c ∷ cs) = isHalfCommand c
+
+abbrev pub noHalfCommand : List Code → Bool
+noHalfCommand [] = true
+noHalfCommand (c ∷ cs) = not (isHalfCommand c) && noHalfCommand cs
+
+-- the command pairs among pairs, and the pairs of the two-byte codes among codes
+abbrev pub commandPairs : List Pair → List Pair
+commandPairs [] = []
+commandPairs (p ∷ ps) = cond (isCommandPair p) (p ∷ commandPairs ps) (commandPairs ps)
+
+abbrev pub twoBytePairs : List Code → List Pair
+twoBytePairs [] = []
+twoBytePairs (c ∷ cs) = cond (isSingle c) (twoBytePairs cs) (pairOf c ∷ twoBytePairs cs)

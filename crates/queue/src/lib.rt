@@ -4,6 +4,7 @@
 pub mod count;
 pub mod pop;
 pub mod push;
+pub mod queueable;
 pub mod ring;
 pub mod well_formed;
 

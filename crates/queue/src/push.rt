@@ -1,21 +1,22 @@
 // Putting a code into the queue.
 ghost use mathlib.Core.Path.{_≡_};
 ghost use Prim.Native.Nat.{_<_};
-ghost use Rattle.queue.specs.Admission.{admissionOutcome};
+ghost use Rattle.queue.specs.Admission.{admissionOutcome, queueableOutcome};
 ghost use Rattle.queue.specs.Queue.{admitBy, isFull};
-ghost use Rattle.code.specs.Write.{domainOutcome};
 ghost use Rattle.queue.specs.Ring.{pushOutcome, pushRing, stored};
+use crate::queueable::Queueable;
+use crate::queueable::may_be_queued;
 use crate::ring::Queue;
 use crate::ring::Slot;
 use crate::well_formed::is_nul;
 use code::Code;
-use code::Domain;
 
-// `UnknownByte` is refusal 2, `NoSuchRow` refusal 3, `Full` refusal 7, `IllFormed` refusal 12.
+// `UnknownByte` is refusal 2, `NoSuchRow` refusal 3, `NotACommand` refusal 18, `Full` refusal 7, `IllFormed` refusal 12.
 pub enum PushAnswer {
     Accepted,
     UnknownByte,
     NoSuchRow,
+    NotACommand,
     Full,
     IllFormed,
 }
@@ -32,26 +33,28 @@ pub(crate) enum Admission {
     NotStored,
     UnknownByte,
     NoSuchRow,
+    NotACommand,
     Full,
 }
 
-// What becomes of a code: NUL passes even where the queue is full, and 2 and 3 are tested before 7.
-pub(crate) fn admission_of(nul: bool, domain: Domain, full: bool) -> Admission
-    ensures { λ r. ⌜ admissionOutcome r ≡ admitBy nul (domainOutcome domain) full ⌝ }
+// What becomes of a code: NUL passes even where the queue is full, and 2, 3 and 18 are tested before 7.
+pub(crate) fn admission_of(nul: bool, queueable: Queueable, full: bool) -> Admission
+    ensures { λ r. ⌜ admissionOutcome r ≡ admitBy nul (queueableOutcome queueable) full ⌝ }
 {
     if nul {
         return Admission::NotStored;
     }
-    match domain {
-        Domain::Inside => {
+    match queueable {
+        Queueable::Yes => {
             if full {
                 Admission::Full
             } else {
                 Admission::Stored
             }
         }
-        Domain::UnknownByte => Admission::UnknownByte,
-        Domain::NoSuchRow => Admission::NoSuchRow,
+        Queueable::UnknownByte => Admission::UnknownByte,
+        Queueable::NoSuchRow => Admission::NoSuchRow,
+        Queueable::NotACommand => Admission::NotACommand,
     }
 }
 
@@ -95,9 +98,9 @@ impl Queue {
             };
         }
         let nul = is_nul(code);
-        let domain = code.domain();
+        let may = may_be_queued(code);
         let full = self.is_full();
-        let answer = match admission_of(nul, domain, full) {
+        let answer = match admission_of(nul, may, full) {
             Admission::Stored => {
                 let next = self.stored(code);
                 return Pushed {
@@ -108,6 +111,7 @@ impl Queue {
             Admission::NotStored => PushAnswer::Accepted,
             Admission::UnknownByte => PushAnswer::UnknownByte,
             Admission::NoSuchRow => PushAnswer::NoSuchRow,
+            Admission::NotACommand => PushAnswer::NotACommand,
             Admission::Full => PushAnswer::Full,
         };
         Pushed {

@@ -1,23 +1,12 @@
 // Whether a state that was handed in meets the clauses of refusal 12.
 ghost use mathlib.Core.Path.{_≡_};
 ghost use Prim.Native.Nat.{_≤_, _<_};
-ghost use Rattle.queue.specs.Queue.{isInside, isNul, mayWait, mayBeHeld};
+ghost use Rattle.queue.specs.Queue.{isNul, mayWait, mayBeHeld};
 ghost use Rattle.queue.specs.Ring.{allMayWait, heldFits, heldIn, waitingIn, wellFormed};
+use crate::queueable::is_queueable;
 use crate::ring::Held;
 use crate::ring::Queue;
 use code::Code;
-use code::Domain;
-
-// Whether a code can be written, without the number of its refusal.
-fn is_inside(code: Code) -> bool
-    ensures { λ r. ⌜ r ≡ isInside code ⌝ }
-{
-    match code.domain() {
-        Domain::Inside => true,
-        Domain::UnknownByte => false,
-        Domain::NoSuchRow => false,
-    }
-}
 
 // Whether a code is padding.
 pub(crate) fn is_nul(code: Code) -> bool
@@ -31,29 +20,29 @@ pub(crate) fn is_nul(code: Code) -> bool
     }
 }
 
-// Whether a code may wait: any but NUL that can be written. Kind by kind and not by a `match`: the compiler
+// Whether a code may wait: any but NUL that may be queued. Kind by kind and not by a `match`: the compiler
 // makes a jump table of its four arms, and the test of a letter takes half as long again.
 pub(crate) fn may_wait(code: Code) -> bool
     ensures { λ r. ⌜ r ≡ mayWait code ⌝ }
 {
     if let Code::Letter(_) = code {
-        return is_inside(code);
+        return is_queueable(code);
     }
     if let Code::Control(_) = code {
-        return is_inside(code);
+        return is_queueable(code);
     }
     if let Code::Unknown(_) = code {
-        return is_inside(code);
+        return is_queueable(code);
     }
     false
 }
 
-// Whether a code may be held: a command that can be written.
+// Whether a code may be held: a two-byte code that may be queued.
 pub(crate) fn may_be_held(code: Code) -> bool
     ensures { λ r. ⌜ r ≡ mayBeHeld code ⌝ }
 {
     if code.byte_len() == 2 {
-        is_inside(code)
+        is_queueable(code)
     } else {
         false
     }

@@ -92,6 +92,7 @@ pub(crate) fn push_bytes(answer: PushAnswer) -> [u8; 16] {
         PushAnswer::Accepted => refusal(0),
         PushAnswer::UnknownByte => refusal(2),
         PushAnswer::NoSuchRow => refusal(3),
+        PushAnswer::NotACommand => refusal(18),
         PushAnswer::Full => refusal(7),
         PushAnswer::IllFormed => refusal(12),
     }

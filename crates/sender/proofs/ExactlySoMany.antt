@@ -16,6 +16,7 @@ use Rattle.code.specs.Read.{isCommandPair}
 use Rattle.code.specs.Write.{inDomain, writeCode}
 use Rattle.code.specs.declared.code.Code.{Code}
 use Rattle.queue.specs.Queue.{admit, entered, isSingle, pairOf, pop, queued}
+use Rattle.queue.specs.Queueable.{queueable}
 use Rattle.queue.specs.Ring.{popRing, pushRing}
 use Rattle.queue.specs.Ring as ring
 use Rattle.sender.proofs.Order.{sends-stay-good}
@@ -73,11 +74,11 @@ one-behind zero = refl
 one-behind (suc n) = ap (λ (l : List Code). A-acute ∷ l) (one-behind n)
 
 admitted : (n : ℕ) → n < 64 → admit A-acute n ≡ answer true
-unfolding admit inDomain
+unfolding admit inDomain queueable
 admitted n less = rw (lt-leb 64 n less) refl
 
 sent-once : (view sentOnce ≡ fullOf A-acute 0) × Good sentOnce
-unfolding ones onesIn writeCode inDomain admit pairOf pop pushRing popRing ring.wellFormed wellFormed pushSender send sendSender
+unfolding ones onesIn writeCode inDomain queueable admit pairOf pop pushRing popRing ring.wellFormed wellFormed pushSender send sendSender
 sent-once = (refl, record { formed = refl; places = refl })
 
 pub pushed-good : (n : ℕ) → Good (pushedTimes n sentOnce)

@@ -6,7 +6,7 @@
 
 use crate::any_code::any_code;
 use crate::names::{COMMANDS, LETTERS};
-use crate::queue::{plain, Pushes};
+use crate::queue::{self, plain};
 use crate::random::{Random, SEED};
 use crate::receiver::{heard, Heard, Receiver, HI, PADDING};
 use crate::rounds::Beside;
@@ -128,7 +128,7 @@ fn speak(to: &mut Transcript, random: &mut Random, bursts: u32, met: &mut Met) -
         }
     }
     spoken.send_until_idle(&mut asked);
-    met.pushes.add(&asked.model.writer.pushes);
+    met.queue.add(&asked.model.writer.met);
     spoken
 }
 
@@ -141,7 +141,7 @@ struct Arrived {
 /// How often a line did what it should do.
 #[derive(Default)]
 struct Met {
-    pushes: Pushes,
+    queue: queue::Met,
     sessions: usize,
     arrived: usize,
     spoiled: usize,
@@ -157,7 +157,7 @@ struct Met {
 impl Met {
     /// A comparison that never came to a case would say nothing of it.
     fn reached_everything(&self) {
-        self.pushes.reached_every_answer();
+        self.queue.reached_everything();
         for (first, row) in self.hits.iter().enumerate() {
             for (second, &count) in row.iter().enumerate() {
                 let shows = first % 2 == 1 || second % 2 == 1;

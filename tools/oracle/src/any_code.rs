@@ -21,11 +21,12 @@ pub fn any_code(random: &mut Random) -> Code {
                 random.pick(&FLAGS),
             )
         }),
-        _ => any_control(random, |random| {
+        11 => any_control(random, |random| {
             let [first, second, ..] = random.below(0x1_0000).to_le_bytes();
-            let mask = random.pick(&[0x7F, 0x7F, 0xFF]);
+            let mask = random.pick(&[0x7F, 0xFF]);
             Control::Unknown([first & mask, second & mask])
         }),
+        _ => any_control(random, unknown_command),
     }
 }
 
@@ -44,11 +45,17 @@ pub fn needs_backspace(random: &mut Random) -> Control {
 }
 
 pub fn needs_none(random: &mut Random) -> Control {
-    match random.below(3) {
+    match random.below(4) {
         0 => random.pick(&SYMBOLS[..16]),
         1 => random.pick(&TABS),
-        _ => random.pick(&COMMANDS),
+        2 => random.pick(&COMMANDS),
+        _ => unknown_command(random),
     }
+}
+
+/// An `Unknown` of two bytes that begins as a command does.
+fn unknown_command(random: &mut Random) -> Control {
+    Control::Unknown([0x10 + random.byte_below(0x10), random.byte_below(0x80)])
 }
 
 /// A code that may wait.

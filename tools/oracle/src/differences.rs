@@ -3,7 +3,7 @@
 
 use crate::code::{control, mid_row_code, read_pair, write_code, written};
 use crate::names::{COMMANDS, LETTERS, SYMBOLS, TABS};
-use crate::queue::plain;
+use crate::queue::{plain, NOT_A_COMMAND};
 use crate::receiver::Receiver;
 use crate::rounds::Beside;
 use crate::sender::Asked;
@@ -11,6 +11,7 @@ use crate::streams;
 use crate::transcript::Transcript;
 use crate::tried_by_hand::queued;
 use cea608_types::tables::{Channel, Code, Control, ControlCode, Field};
+use cea608_types::Cea608Writer;
 
 type Pair = [u8; 2];
 
@@ -26,6 +27,7 @@ pub fn differences(to: &mut Transcript) {
     for (codes, pairs) in to_be_sent() {
         sent(to, &codes, &pairs);
     }
+    text_as_a_command(to);
     for (code, pair) in not_read_back() {
         written_and_read(to, code, pair);
     }
@@ -128,10 +130,6 @@ fn to_be_queued() -> Vec<(Vec<Code>, Vec<Pair>)> {
         (vec![scroll, scroll], vec![[0x94, 0xAD], [0x94, 0xAD]]),
         (vec![Code::Unknown(0x14), A], vec![[0x94, 0xC1]]),
         (
-            vec![A, unknown([0x41, 0x42])],
-            vec![[0xC1, 0x80], [0xC1, 0xC2]],
-        ),
-        (
             vec![A, unknown([0x10, 0x20])],
             vec![[0xC1, 0x80], [0x10, 0x20]],
         ),
@@ -145,7 +143,6 @@ fn to_be_sent() -> Vec<(Vec<Code>, Vec<Pair>)> {
         (vec![plain(COMMANDS[5])], vec![[0x94, 0x25]; 2]),
         (vec![scroll, scroll], vec![[0x94, 0xAD]; 4]),
         (vec![Code::Unknown(0x14), A], vec![[0x94, 0xC1]; 2]),
-        (vec![unknown([0x41, 0x42])], vec![[0xC1, 0xC2]]),
     ]
 }
 
@@ -156,6 +153,22 @@ fn sent(to: &mut Transcript, codes: &[Code], pairs: &[Pair]) {
         assert!(!asked.ask_idle());
         assert_eq!(asked.send(), pair, "of {codes:?}");
     }
+    assert!(asked.ask_idle());
+}
+
+/// The crate holds text dressed as a command after a letter, as a command, and sends it as letters;
+/// the port refuses it, and has nothing to send.
+fn text_as_a_command(to: &mut Transcript) {
+    let text = unknown([0x41, 0x42]);
+    let mut writer = Cea608Writer::default();
+    writer.push(A);
+    writer.push(text);
+    let popped = [writer.pop(), writer.pop()];
+    assert_eq!(popped, [[0xC1, 0x80], [0xC1, 0xC2]]);
+    let mut asked = Asked::new(to);
+    asked.push(text);
+    let refused = asked.model.writer.met.answered[usize::from(NOT_A_COMMAND)];
+    assert_eq!(refused, 1);
     assert!(asked.ask_idle());
 }
 

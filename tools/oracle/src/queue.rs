@@ -1,51 +1,86 @@
 //! The queries of the queue. Each call is put to the crate's writer at the same time, and its answer
 //! is what the writer says. What the crate does not have is said here: refusals 2 and 3 are those of
-//! writing the code, 7 is due where 64 codes wait and the crate would grow, and 12 is the answer of a
-//! push, a pop and a count to a state that its clauses rule out.
+//! writing the code, 18 is due to text dressed as a command, 7 where 64 codes wait and the crate would
+//! grow, and 12 is the answer of a push, a pop and a count to a state that its clauses rule out. What
+//! is refused is not put to the writer.
 
 use crate::code::{control, written};
 use crate::names::LETTERS;
 use crate::rounds::Beside;
+use crate::sender::is_command;
 use crate::transcript::Transcript;
 use crate::values::code_bytes;
-use cea608_types::tables::{Channel, Code, Control};
+use cea608_types::tables::{Channel, Code, Control, ControlCode};
 use cea608_types::Cea608Writer;
+use std::collections::VecDeque;
 
 pub const PLACES: usize = 64;
 
 const FULL: u8 = 7;
 pub const ILL_FORMED: u8 = 12;
+pub const NOT_A_COMMAND: u8 = 18;
 
-/// What pushes came upon.
+/// What pushes and pops came upon.
 #[derive(Default)]
-pub struct Pushes {
+pub struct Met {
     /// How often each refusal was due, by its number, and 0 for accepted pushes.
-    pub answered: [usize; 13],
+    pub answered: [usize; 19],
     nul_while_full: usize,
+    text_while_full: usize,
+    /// Pairs made of a two-byte code, of half a command and what is after it, and of other codes.
+    made: [usize; 3],
 }
 
-impl Pushes {
-    pub fn add(&mut self, others: &Pushes) {
+impl Met {
+    pub fn add(&mut self, others: &Met) {
         for (count, other) in self.answered.iter_mut().zip(others.answered) {
             *count += other;
         }
+        for (count, other) in self.made.iter_mut().zip(others.made) {
+            *count += other;
+        }
         self.nul_while_full += others.nul_while_full;
+        self.text_while_full += others.text_while_full;
     }
 
-    /// A comparison that never came to a refusal would say nothing of it.
-    pub fn reached_every_answer(&self) {
-        for refusal in [0, 2, 3, 7] {
+    /// A comparison that never came to a case would say nothing of it.
+    pub fn reached_everything(&self) {
+        for refusal in [0, 2, 3, 7, usize::from(NOT_A_COMMAND)] {
             assert!(self.answered[refusal] > 100, "too few answers {refusal}");
         }
         assert!(self.nul_while_full > 10, "too few NULs into a full queue");
+        assert!(self.text_while_full > 10, "too few 18s of a full queue");
+        assert!(
+            self.made.iter().all(|&count| count > 100),
+            "too few: {:?}",
+            self.made
+        );
     }
 }
 
-/// The crate's writer, with a push refused where 01 refuses it.
+/// Text dressed as a command: a two-byte `Unknown` whose first byte, as it is stored, is not 0x10 to
+/// 0x1F.
+fn is_dressed(code: Code) -> bool {
+    match code {
+        Code::Control(ControlCode {
+            control: Control::Unknown([first, _]),
+            ..
+        }) => !is_first_of_command(first),
+        _ => false,
+    }
+}
+
+fn is_first_of_command(byte: u8) -> bool {
+    (0x10..=0x1F).contains(&byte)
+}
+
+/// The crate's writer, with a push refused where 01 and 02 refuse it.
 #[derive(Default)]
 pub struct Writer {
     writer: Cea608Writer,
-    pub pushes: Pushes,
+    /// The codes that are in the writer, in order.
+    inside: VecDeque<Code>,
+    pub met: Met,
 }
 
 impl Writer {
@@ -64,45 +99,84 @@ impl Writer {
     pub fn push(&mut self, code: Code) -> u8 {
         let refusal = self.refusal_of(code);
         if refusal == 0 {
-            self.writer.push(code);
+            self.put(code);
         }
-        self.pushes.answered[usize::from(refusal)] += 1;
+        self.met.answered[usize::from(refusal)] += 1;
         refusal
+    }
+
+    fn put(&mut self, code: Code) {
+        self.writer.push(code);
+        if code != Code::NUL {
+            self.inside.push_back(code);
+        }
     }
 
     fn refusal_of(&mut self, code: Code) -> u8 {
         let full = self.is_full();
         if code == Code::NUL {
-            self.pushes.nul_while_full += usize::from(full);
+            self.met.nul_while_full += usize::from(full);
             return 0;
         }
         match written(code) {
             Err(refusal) => refusal,
+            Ok(_) if is_dressed(code) => {
+                self.met.text_while_full += usize::from(full);
+                NOT_A_COMMAND
+            }
             Ok(_) if full => FULL,
             Ok(_) => 0,
         }
     }
 
     pub fn pop(&mut self) -> [u8; 2] {
-        self.writer.pop()
+        let before = self.n_codes();
+        let pair = self.writer.pop();
+        let taken: Vec<Code> = self.inside.drain(..before - self.n_codes()).collect();
+        self.made_of(pair, &taken);
+        pair
+    }
+
+    /// T-04's law, of the crate's own pair: it is a command pair exactly where a two-byte code was
+    /// taken, which is then alone and as it is written. Half a command that goes first is the one
+    /// exception.
+    fn made_of(&mut self, pair: [u8; 2], taken: &[Code]) {
+        let of_two_bytes = taken.iter().any(|code| code.byte_len() == 2);
+        let half_first =
+            matches!(taken.first(), Some(&Code::Unknown(byte)) if is_first_of_command(byte));
+        assert_eq!(
+            is_command(pair),
+            of_two_bytes || half_first,
+            "{pair:02X?} of {taken:?}"
+        );
+        if of_two_bytes {
+            assert_eq!(taken.len(), 1, "{taken:?}");
+            assert_eq!(written(taken[0]), Ok((pair, 2)));
+        }
+        let kind = if of_two_bytes {
+            0
+        } else {
+            2 - usize::from(half_first)
+        };
+        self.met.made[kind] += 1;
     }
 
     pub fn reset(&mut self) {
         self.writer.reset();
+        self.inside.clear();
     }
 
     /// Brings the writer into a well-formed state.
     pub fn bring_to(&mut self, pieces: &Pieces) {
-        self.writer.reset();
+        self.reset();
         if let Some(held) = pieces.held {
             // A single code first: the pop sends it and holds the command.
-            self.writer.push(LETTERS[0]);
-            self.writer.push(held);
-            self.writer.pop();
+            self.put(LETTERS[0]);
+            self.put(held);
+            self.pop();
         }
         for place in 0..pieces.waiting {
-            self.writer
-                .push(pieces.slots[(pieces.start + place) % PLACES]);
+            self.put(pieces.slots[(pieces.start + place) % PLACES]);
         }
     }
 }

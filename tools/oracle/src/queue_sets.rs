@@ -3,13 +3,13 @@
 
 use crate::any_code::{any_code, any_control, needs_backspace, needs_none, waiting_code};
 use crate::code::{control, mid_row_code, preamble_code};
-use crate::code_sets::{CHANNELS, FLAGS};
+use crate::code_sets::{CHANNELS, FIELDS_OR_NONE, FLAGS};
 use crate::names::{COMMANDS, LETTERS, MID_ROW_COLOURS, STYLES, SYMBOLS};
 use crate::queue::{plain, Asked, Pieces, PLACES};
 use crate::random::{Random, SEED};
 use crate::rounds::{rounds, stretch, Beside, Steps};
 use crate::transcript::Transcript;
-use cea608_types::tables::{Code, Control};
+use cea608_types::tables::{Channel, Code, Control, Field};
 
 const ROUNDS: usize = 300;
 
@@ -22,13 +22,14 @@ pub fn calls(to: &mut Transcript, random: &mut Random) {
     }
     refusals_change_nothing(&mut asked, random);
     rounds(&mut asked, random, ROUNDS);
-    asked.writer.pushes.reached_every_answer();
+    asked.writer.met.reached_everything();
 }
 
 /// Sequences of a few codes, in which every case of a pop is met.
 pub fn short_sequences() -> Vec<Vec<Code>> {
     [
         every_unknown(),
+        every_unknown_of_two_bytes(),
         every_command_that_needs_a_backspace(),
         every_three_kinds(),
     ]
@@ -43,6 +44,27 @@ fn every_unknown() -> Vec<Vec<Code>> {
         all.extend([vec![unknown], vec![letter, unknown], vec![unknown, letter]]);
     }
     all
+}
+
+/// Each first byte of an `Unknown` of two bytes, before second bytes on either side of 0x20 to 0x2F
+/// and of 0x80, on every channel and field, before a letter and after one.
+fn every_unknown_of_two_bytes() -> Vec<Vec<Code>> {
+    let mut all = vec![];
+    for first in 0..=0xFF {
+        for second in [0x1F, 0x2F, 0x7F, 0x80] {
+            for (field, channel) in every_field_and_channel() {
+                let unknown = control(field, channel, Control::Unknown([first, second]));
+                all.push(vec![LETTERS[33], unknown, LETTERS[33]]);
+            }
+        }
+    }
+    all
+}
+
+fn every_field_and_channel() -> impl Iterator<Item = (Option<Field>, Channel)> {
+    FIELDS_OR_NONE
+        .into_iter()
+        .flat_map(|field| CHANNELS.map(|channel| (field, channel)))
 }
 
 /// By itself, after one single code and after two, on both channels.
@@ -79,6 +101,7 @@ fn every_three_kinds() -> Vec<Vec<Code>> {
         plain(preamble_code(14, STYLES[8], false)),
         plain(preamble_code(15, STYLES[8], false)),
         plain(Control::Unknown([0x41, 0x42])),
+        plain(Control::Unknown([0x1F, 0x42])),
         plain(Control::Unknown([0x14, 0x80])),
     ];
     let mut all = vec![];
@@ -109,7 +132,7 @@ fn refusals_change_nothing(asked: &mut Asked, random: &mut Random) {
             };
             asked.set_well_formed(&pieces);
             asked.push(Code::NUL);
-            for code in outside_the_domain() {
+            for code in not_to_queue() {
                 asked.push(code);
             }
             if waiting == PLACES {
@@ -231,17 +254,27 @@ const NUMBERS: [usize; 14] = [
     usize::MAX,
 ];
 
-/// NUL, and what refusals 2 and 3 are about.
+/// NUL, and what refusals 2, 3 and 18 are about.
 fn not_to_wait() -> Vec<Code> {
     let mut codes = vec![Code::NUL];
-    codes.extend(outside_the_domain());
+    codes.extend(not_to_queue());
     codes
 }
 
-pub fn outside_the_domain() -> Vec<Code> {
+/// What refusals 2, 3 and 18 are about. 2 is tested before 18.
+pub fn not_to_queue() -> Vec<Code> {
     let mut codes: Vec<Code> = [0x80, 0xC1, 0xFF].map(Code::Unknown).into();
-    for bytes in [[0x80, 0x20], [0x14, 0x80], [0xFF, 0xFF]] {
+    for bytes in [[0x80, 0x20], [0x14, 0x80], [0x41, 0x80], [0xFF, 0xFF]] {
         codes.push(plain(Control::Unknown(bytes)));
+    }
+    for bytes in [
+        [0x00, 0x00],
+        [0x0F, 0x41],
+        [0x20, 0x20],
+        [0x41, 0x42],
+        [0x7F, 0x7F],
+    ] {
+        codes.extend(CHANNELS.map(|channel| control(None, channel, Control::Unknown(bytes))));
     }
     for row in [15, 16, 255] {
         codes.push(plain(preamble_code(row, STYLES[0], false)));
@@ -249,12 +282,23 @@ pub fn outside_the_domain() -> Vec<Code> {
     codes
 }
 
-/// Single codes, and two-byte codes outside the domain.
+/// Single codes, and two-byte codes that may not be queued.
 fn not_to_hold() -> Vec<Code> {
     let mut codes = vec![Code::NUL, LETTERS[33], LETTERS[95]];
     codes.extend([0x00, 0x14, 0x41, 0x7F].map(Code::Unknown));
-    codes.extend(outside_the_domain());
+    codes.extend(not_to_queue());
     codes
+}
+
+/// What is pushed into a state that is not well formed: 12 is tested before all else.
+pub fn pushed_when_ill_formed() -> [Code; 5] {
+    [
+        Code::NUL,
+        LETTERS[33],
+        Code::Unknown(0x80),
+        plain(preamble_code(15, STYLES[0], false)),
+        plain(Control::Unknown([0x41, 0x42])),
+    ]
 }
 
 /// Breaks a well-formed state in one way.
@@ -263,8 +307,7 @@ fn break_alone(asked: &mut Asked, random: &mut Random, broken_by: impl Fn(&mut P
     let mut broken = good.clone();
     broken_by(&mut broken);
     asked.set(&broken);
-    let row_15 = plain(preamble_code(15, STYLES[0], false));
-    asked.refused_as_ill_formed(&[Code::NUL, LETTERS[33], Code::Unknown(0x80), row_15]);
+    asked.refused_as_ill_formed(&pushed_when_ill_formed());
     asked.read_back(&broken);
     asked.set_well_formed(&good);
     asked.read_back(&good);

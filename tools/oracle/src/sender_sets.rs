@@ -1,8 +1,8 @@
 //! The sets of the sender: calls in random order beside the model, and states that are not well
 //! formed, each clause of refusal 12 broken alone.
 
-use crate::code::{preamble_code, with_parity};
-use crate::names::{COMMANDS, LETTERS, STYLES, SYMBOLS};
+use crate::code::with_parity;
+use crate::names::{COMMANDS, LETTERS, SYMBOLS};
 use crate::queue::{plain, PLACES};
 use crate::queue_sets::{self, every_break, of_good_codes, short_sequences};
 use crate::random::{Random, SEED};
@@ -181,7 +181,7 @@ fn refusals_change_nothing(asked: &mut Asked, random: &mut Random) {
             pieces.queue.waiting = waiting;
             asked.set_well_formed(&pieces);
             asked.push(Code::NUL);
-            for code in queue_sets::outside_the_domain() {
+            for code in queue_sets::not_to_queue() {
                 asked.push(code);
             }
             if waiting == PLACES {
@@ -209,7 +209,7 @@ fn refusals_change_nothing(asked: &mut Asked, random: &mut Random) {
 
 /// A comparison that never came to a case would say nothing of it.
 fn reached_everything(asked: &Asked) {
-    asked.model.writer.pushes.reached_every_answer();
+    asked.model.writer.met.reached_everything();
     let met = &asked.met;
     for (count, what) in [
         (met.pushes_while_owed, "pushes while a repeat is owed"),
@@ -318,9 +318,7 @@ const DRAINS: [Drain; 4] = [
 /// Every call refuses the state, and leaves it the same in every piece.
 fn refuse_everything(asked: &mut Asked, broken: &Pieces) {
     asked.set(broken);
-    let row_15 = plain(preamble_code(15, STYLES[0], false));
-    let pushed = [Code::NUL, LETTER, Code::Unknown(0x80), row_15];
-    asked.refused_as_ill_formed(&pushed, &DRAINS);
+    asked.refused_as_ill_formed(&queue_sets::pushed_when_ill_formed(), &DRAINS);
     asked.read_back(broken);
 }
 
@@ -416,7 +414,7 @@ fn full(asked: &mut Asked) {
     }
     asked.push(Code::NUL);
     asked.look();
-    let [accepted, refused] = [0, 7].map(|answer| asked.model.writer.pushes.answered[answer]);
+    let [accepted, refused] = [0, 7].map(|answer| asked.model.writer.met.answered[answer]);
     assert_eq!((accepted, refused), (6 + PLACES + 1, 1));
     asked.reset();
     asked.look();

@@ -5,25 +5,28 @@ use borrow.Author.Needs.{needs}
 use mathlib.Core.Bool.{Bool, true, false}
 use mathlib.Core.Path.{_≡_, refl}
 use Rattle.code.specs.Outcome.{answer, refused}
-use Rattle.code.specs.Write.{domainOutcome}
-use Rattle.code.specs.declared.write.Domain.{Domain}
-use Rattle.code.specs.declared.write.Domain.the-variants as domain
+use Rattle.queue.specs.Admission.{queueableOutcome}
 use Rattle.queue.specs.Queue.{admitBy}
+use Rattle.queue.specs.declared.queueable.Queueable.{Queueable}
+use Rattle.queue.specs.declared.queueable.Queueable.the-variants as may
 use Rattle.queue.proofs.push.admission_of.Statement.{statement}
 use Rattle.queue.proofs.push.admission_of.Tie as tie
 
 -- what has to have been found before each answer
-full-is-refused : (nul : Bool) (d : Domain) (full : Bool) → nul ≡ false → d ≡ domain.Inside → full ≡ true → admitBy nul (domainOutcome d) full ≡ refused 7
+full-is-refused : (nul : Bool) (d : Queueable) (full : Bool) → nul ≡ false → d ≡ may.Yes → full ≡ true → admitBy nul (queueableOutcome d) full ≡ refused 7
 full-is-refused nul d full no-nul inside is-full = rw (no-nul, inside, is-full) refl
 
-room-is-used : (nul : Bool) (d : Domain) (full : Bool) → nul ≡ false → d ≡ domain.Inside → full ≡ false → admitBy nul (domainOutcome d) full ≡ answer true
+room-is-used : (nul : Bool) (d : Queueable) (full : Bool) → nul ≡ false → d ≡ may.Yes → full ≡ false → admitBy nul (queueableOutcome d) full ≡ answer true
 room-is-used nul d full no-nul inside has-room = rw (no-nul, inside, has-room) refl
 
-unknown-is-refused : (nul : Bool) (d : Domain) (full : Bool) → nul ≡ false → d ≡ domain.UnknownByte → admitBy nul (domainOutcome d) full ≡ refused 2
+unknown-is-refused : (nul : Bool) (d : Queueable) (full : Bool) → nul ≡ false → d ≡ may.UnknownByte → admitBy nul (queueableOutcome d) full ≡ refused 2
 unknown-is-refused nul d full no-nul outside = rw (no-nul, outside) refl
 
-row-is-refused : (nul : Bool) (d : Domain) (full : Bool) → nul ≡ false → d ≡ domain.NoSuchRow → admitBy nul (domainOutcome d) full ≡ refused 3
+row-is-refused : (nul : Bool) (d : Queueable) (full : Bool) → nul ≡ false → d ≡ may.NoSuchRow → admitBy nul (queueableOutcome d) full ≡ refused 3
 row-is-refused nul d full no-nul outside = rw (no-nul, outside) refl
+
+command-is-refused : (nul : Bool) (d : Queueable) (full : Bool) → nul ≡ false → d ≡ may.NotACommand → admitBy nul (queueableOutcome d) full ≡ refused 18
+command-is-refused nul d full no-nul outside = rw (no-nul, outside) refl
 
 returns : tie.Need-returns
 returns c = rw (c .if1 .taken) refl
@@ -40,6 +43,9 @@ returns-4 c = search unknown-is-refused
 returns-5 : tie.Need-returns-5
 returns-5 c = search row-is-refused
 
+returns-6 : tie.Need-returns-6
+returns-6 c = search command-is-refused
+
 enum-told : tie.Need-enum-told
 enum-told c = search needs
 
@@ -49,7 +55,10 @@ enum-told-2 c = search needs
 enum-told-3 : tie.Need-enum-told-3
 enum-told-3 c = search needs
 
+enum-told-4 : tie.Need-enum-told-4
+enum-told-4 c = search needs
+
 pub admission-of-spec : {M : Type 1} → statement M
 admission-of-spec =
     tie.close
-    (tie.spec returns enum-told enum-told-2 enum-told-3 returns-2 returns-3 returns-4 returns-5)
+    (tie.spec returns enum-told enum-told-2 enum-told-3 enum-told-4 returns-2 returns-3 returns-4 returns-5 returns-6)

@@ -1,5 +1,5 @@
 -- `queue::well_formed::may_wait` meets its contract, by the kind of the code: NUL may not wait, and any other may if it
--- can be written.
+-- may be queued.
 -- Assumes nothing.
 use borrow.Author.Needs.{needs}
 use denote.Enum.Declared.{tagOf}
@@ -24,29 +24,29 @@ neither (code.Unknown b) no-letter no-control not-unknown = absurd (miss (0 ∷ 
 enum-told : tie.Need-enum-told
 enum-told c = search needs
 
-is-inside-requires : tie.Need-is-inside-requires
-is-inside-requires c κs = search needs
+is-queueable-requires : tie.Need-is-queueable-requires
+is-queueable-requires c κs = search needs
 
 returns : tie.Need-returns
-returns c = simp (c .is-inside .ensures, ap isNul (c .before .enum-told .given .1))
+returns c = simp (c .is-queueable .ensures, ap isNul (c .before .enum-told .given .1))
 
 enum-told-2 : tie.Need-enum-told-2
 enum-told-2 c = search needs
 
-is-inside-requires-2 : tie.Need-is-inside-requires-2
-is-inside-requires-2 c κs = search needs
+is-queueable-requires-2 : tie.Need-is-queueable-requires-2
+is-queueable-requires-2 c κs = search needs
 
 returns-2 : tie.Need-returns-2
-returns-2 c = simp (c .is-inside2 .ensures, ap isNul (c .before .enum-told2 .given .1))
+returns-2 c = simp (c .is-queueable2 .ensures, ap isNul (c .before .enum-told2 .given .1))
 
 enum-told-3 : tie.Need-enum-told-3
 enum-told-3 c = search needs
 
-is-inside-requires-3 : tie.Need-is-inside-requires-3
-is-inside-requires-3 c κs = search needs
+is-queueable-requires-3 : tie.Need-is-queueable-requires-3
+is-queueable-requires-3 c κs = search needs
 
 returns-3 : tie.Need-returns-3
-returns-3 c = simp (c .is-inside3 .ensures, ap isNul (c .before .enum-told3 .given .1))
+returns-3 c = simp (c .is-queueable3 .ensures, ap isNul (c .before .enum-told3 .given .1))
 
 returns-4 : tie.Need-returns-4
 returns-4 c = neither (c .before .before .before .args .code) (c .before .before .match .keys2) (c .before .match2 .keys2) (c .match3 .keys2)
@@ -56,12 +56,12 @@ may-wait-spec =
     tie.close
     (tie.spec
     enum-told
-    is-inside-requires
+    is-queueable-requires
     returns
     enum-told-2
-    is-inside-requires-2
+    is-queueable-requires-2
     returns-2
     enum-told-3
-    is-inside-requires-3
+    is-queueable-requires-3
     returns-3
     returns-4)

@@ -1,20 +1,11 @@
 -- `sender::well_formed::is_command` meets its contract, by the two bounds on the stripped first byte.
 -- Assumes nothing.
 use borrow.Author.Needs.{needs}
-use borrow.Author.Tests.{le-leb, lt-leb}
-use lib.Dec.{leb}
-use mathlib.Core.Bool.{false}
-use mathlib.Core.Path.{_≡_, refl, ap, _∙_}
-use Prim.Native.Nat.{ℕ, _≤_, _<_}
+use mathlib.Core.Path.{ap, _∙_}
 use Rattle.code.specs.Read.{isCommand}
+use Rattle.queue.proofs.FirstByte.{below, not-below}
 use Rattle.sender.proofs.well_formed.is_command.Statement.{statement}
 use Rattle.sender.proofs.well_formed.is_command.Tie as tie
-
-below : (a : ℕ) → a < 0x10 → false ≡ isCommand a
-below a h = rw (lt-leb 0x10 a h) refl
-
-not-below : (a : ℕ) → 0x10 ≤ a → leb a 0x1F ≡ isCommand a
-not-below a h = rw (le-leb 0x10 a h) refl
 
 strip-parity-requires : tie.Need-strip-parity-requires
 strip-parity-requires c κs = search needs

@@ -23,7 +23,7 @@ is-formed c =
 
 admission : (c : tie.After-admission-of) → admissionOutcome (c .admission-of .result) ≡ admit (c .before .before .before .before .before .before .args .code) (c .before .before .before .before .before .before .args .self .waiting)
 admission c =
-    admission-is _ _ (c .admission-of .ensures) (c .before .before .before .is-nul .ensures) (c .before .before .domain .ensures) (c .before .is-full .ensures)
+    admission-is _ _ (c .admission-of .ensures) (c .before .before .before .is-nul .ensures) (c .before .before .may-be-queued .ensures) (c .before .is-full .ensures)
 
 is-pushed : (c : tie.After-admission-of) (a : Admission) → c .admission-of .result ≡ a → entered (admissionOutcome a) (stored (c .before .before .before .before .before .before .args .self) (c .before .before .before .before .before .before .args .code)) (c .before .before .before .before .before .before .args .self) ≡ pushRing (c .before .before .before .before .before .before .args .self) (c .before .before .before .before .before .before .args .code)
 is-pushed c a e = pushed-as _ _ (is-formed c) _ (sym (ap admissionOutcome e) ∙ admission c)
@@ -38,8 +38,8 @@ returns c = simp (← c .before .is-well-formed .ensures, not-true (c .before .i
 is-nul-requires : tie.Need-is-nul-requires
 is-nul-requires c κs = search needs
 
-domain-requires : tie.Need-domain-requires
-domain-requires c κs = search needs
+may-be-queued-requires : tie.Need-may-be-queued-requires
+may-be-queued-requires c κs = search needs
 
 is-full-requires : tie.Need-is-full-requires
 is-full-requires c κs = search needs
@@ -71,6 +71,9 @@ enum-told-4 c = search needs
 enum-told-5 : tie.Need-enum-told-5
 enum-told-5 c = search needs
 
+enum-told-6 : tie.Need-enum-told-6
+enum-told-6 c = search needs
+
 returns-3 : tie.Need-returns-3
 returns-3 c = is-pushed (c .before .before) _ (c .enum-told2 .given .1)
 
@@ -83,6 +86,9 @@ returns-5 c = is-pushed (c .before .before) _ (c .enum-told4 .given .1)
 returns-6 : tie.Need-returns-6
 returns-6 c = is-pushed (c .before .before) _ (c .enum-told5 .given .1)
 
+returns-7 : tie.Need-returns-7
+returns-7 c = is-pushed (c .before .before) _ (c .enum-told6 .given .1)
+
 pub push-spec : {M : Type 1} → statement M
 push-spec =
     tie.close
@@ -90,7 +96,7 @@ push-spec =
     is-well-formed-requires
     returns
     is-nul-requires
-    domain-requires
+    may-be-queued-requires
     is-full-requires
     admission-of-requires
     enum-told
@@ -100,7 +106,9 @@ push-spec =
     enum-told-3
     enum-told-4
     enum-told-5
+    enum-told-6
     returns-3
     returns-4
     returns-5
-    returns-6)
+    returns-6
+    returns-7)
