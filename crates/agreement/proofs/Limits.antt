@@ -35,6 +35,7 @@ use Rattle.agreement.specs.Agreement.{Act, queueing, sending, Agreement,
 use Rattle.agreement.specs.Agreement as agreed
 use Rattle.agreement.specs.OneByOne as one
 use Rattle.agreement.specs.Pairs.{carriageReturn, hi, rollUp2}
+use Rattle.agreement.specs.QueuedCommands.{made}
 use Rattle.sender.specs.Sender.{freshSender, idleSender, pushSender, sendSender, wellFormed}
 use Rattle.sender.specs.Sending.{send}
 
@@ -61,6 +62,11 @@ line = rollUp2 ∷ rollUp2 ∷ carriageReturn ∷ carriageReturn ∷ hi ∷ []
 pub what-is-sent : (sentBy programme freshSender ≡ line) × (queuePairs programme freshSender ≡ rollUp2 ∷ carriageReturn ∷ hi ∷ []) × EndsIdle programme
 unfolding ones onesIn writeCode inDomain queueable admit pairOf pop pushRing popRing ring.wellFormed wellFormed pushSender send sendSender idleSender
 what-is-sent = (refl, refl, refl)
+
+-- what each pair was made of
+pub what-it-is-made-of : made programme freshSender ≡ record { pair = rollUp2; codes = command RollUp2 ∷ [] } ∷ record { pair = carriageReturn; codes = command CarriageReturn ∷ [] } ∷ record { pair = hi; codes = code.Letter (letterAt 0x28) ∷ code.Letter (letterAt 0x49) ∷ [] } ∷ []
+unfolding ones onesIn writeCode inDomain queueable admit pairOf pop pushRing popRing ring.wellFormed wellFormed pushSender send sendSender
+what-it-is-made-of = refl
 
 pub what-is-meant : events (readOnce fresh (rollUp2 ∷ carriageReturn ∷ hi ∷ [])) ≡ modeEvent ∷ returnEvent ∷ hiEvent ∷ []
 unfolding readPair ones onesIn standard
@@ -116,6 +122,15 @@ no-agreement-over-two-corrupted agrees = fails twoCorrupted (ap length two-corru
 
 pub no-agreement-over-corrupted-text : Agreement programme textCorrupted → ⊥
 no-agreement-over-corrupted-text agrees = fails textCorrupted (ap length corrupted-text-loses-words) agrees
+
+-- half a command: `Unknown` 14 before A is one pair of two single codes, 94 C1, and is sent twice
+abbrev halfACommand : List Act
+halfACommand =
+    queueing (code.Unknown 0x14) ∷ queueing (code.Letter (letterAt 0x21)) ∷ sending ∷ sending ∷ []
+
+pub half-a-command-is-sent-twice : (made halfACommand freshSender ≡ record { pair = pair 0x94 0xC1; codes = code.Unknown 0x14 ∷ code.Letter (letterAt 0x21) ∷ [] } ∷ []) × (sentBy halfACommand freshSender ≡ pair 0x94 0xC1 ∷ pair 0x94 0xC1 ∷ [])
+unfolding ones onesIn writeCode inDomain queueable admit pairOf pop pushRing popRing ring.wellFormed wellFormed pushSender send sendSender
+half-a-command-is-sent-twice = (refl, refl)
 
 -- a carriage return queued twice is a stretch of four, and two corrupted copies lose one of the two scrolls
 abbrev twoReturns : List Act

@@ -2,12 +2,12 @@
 -- went out alone and as it is written. Half a command that goes first is the one exception. The cases at the end show
 -- where 18 begins and ends, and the exception.
 -- Assumes nothing.
-use mathlib.Core.Bool.{Bool, true, false, cond, not, _||_, _&&_, true≢false}
+use mathlib.Core.Bool.{Bool, true, false, cond, not, _||_, true≢false}
 use mathlib.Core.List.{List, [], _∷_, _++_}
 use mathlib.Core.Option.{Option, none, some}
 use mathlib.Core.Path.{_≡_, refl, ap, sym, subst, _∙_}
 use Prim.Native.Nat.{ℕ}
-use borrow.Author.Tests.{not-true}
+use borrow.Author.Tests.{not-false}
 use lib.Count.{ones, onesIn}
 use lib.Dec.{eqb}
 use lib.ListN.{replicate}
@@ -30,14 +30,14 @@ use Rattle.code.specs.declared.pair.Pair.{Pair}
 use Rattle.code.specs.declared.preamble.PreambleType.the-variants as style
 use Rattle.queue.proofs.Order.{pop-takes-from-the-front}
 use Rattle.queue.proofs.Pairs.{popped-command}
-use Rattle.queue.proofs.Dressed.{queueable-is-in-domain, queueable-is-not-dressed}
+use Rattle.queue.proofs.Dressed.{dressed-or-command, queueable-is-in-domain, queueable-is-not-dressed}
 use Rattle.queue.proofs.Sends.{held-is-no-single, pop-sends-what-it-took}
 use Rattle.queue.specs.Calls.{Reply, listReplies, popping, pushing, toPop, toPush}
 use Rattle.queue.specs.Good.{Fit}
 use Rattle.queue.specs.Queue.{Pop, Queued, admit, byteOf, empty, inside, isNul, isSingle, mayWait, pairOf, pop, popCommand, popHeld, popSingle, popTwo, popWaiting, queued, sent}
 use Rattle.queue.specs.Queueable.{isAnswer, isQueueable, queueable}
 use Rattle.queue.specs.Ring.{allMayWait}
-use Rattle.queue.specs.Sent.{commandPairs, halfCommandFirst, hasTwoByteCode, isHalfCommand, noHalfCommand, pairFor, readsCommand, twoBytePairs}
+use Rattle.queue.specs.Sent.{MadeOf, of-singles, of-two-bytes, halfCommandFirst, hasTwoByteCode, isHalfCommand, pairFor, readsCommand}
 
 -- a code that may be queued goes out with a first byte of 10 to 1F exactly where it is one that is sent as a command
 says : (c : Code) (o : Outcome (Pair × ℕ)) → writeCode c ≡ o → isAnswer (settled o) ≡ true → isCommandPair (sent o) ≡ isCommandCode c
@@ -49,14 +49,11 @@ unfolding pairOf
 code-says c e = says c (writeCode c) refl (ap isAnswer (sym (domain-is-written c)) ∙ queueable-is-in-domain c e)
 
 -- which it is where it has two bytes, or is half a command
-undressed : (t : Bool) → not t ≡ false → t ≡ true
-undressed true e = refl
-undressed false e = sym e
-
 sent-as-command : (c : Code) → isQueueable c ≡ true → isCommandCode c ≡ (not (isSingle c) || isHalfCommand c)
 sent-as-command code.Nul e = refl
 sent-as-command (code.Control c) e =
-    undressed (isCommandControl (c .control)) (queueable-is-not-dressed (code.Control c) e)
+    not-false (isCommandControl (c .control))
+    (sym (dressed-or-command (c .control)) ∙ queueable-is-not-dressed (code.Control c) e)
 sent-as-command (code.Letter l) e = refl
 sent-as-command (code.Unknown b) e = refl
 
@@ -98,11 +95,6 @@ pair-says [] (some c) first = refl
 pair-says (x ∷ []) none first = alone-first (isSingle x) x ∙ code-is-a-command x first
 pair-says (x ∷ []) (some c) first = code-is-a-command x first
 pair-says (x ∷ y ∷ rest) h first = code-is-a-command x first
-
--- what a pair is made of: single codes alone, or one two-byte code, as that is written
-pub data MadeOf (p : Pair) : List Code → Type 0 where
-  of-singles : {l : List Code} → hasTwoByteCode l ≡ false → MadeOf p l
-  of-two-bytes : (c : Code) → isSingle c ≡ false → p ≡ pairOf c → MadeOf p (c ∷ [])
 
 abbrev Made : Pop → Type 0
 Made p = MadeOf (p .pair) (p .took)
@@ -156,30 +148,6 @@ popped-is-a-command v f =
 pub popped-is-read : (v : Queued) → Fit v → readsCommand (readPair (pop v .pair .0) (pop v .pair .1)) ≡ (hasTwoByteCode (pop v .took) || halfCommandFirst (pop v .took))
 popped-is-read v f = popped-command v f ∙ popped-is-a-command v f
 
--- without half a command: the command pairs of a pop are those of the two-byte codes that it took
-no-half-first : (l : List Code) → noHalfCommand l ≡ true → halfCommandFirst l ≡ false
-no-half-first [] e = refl
-no-half-first (c ∷ cs) e = not-true (isHalfCommand c) (both-left (not (isHalfCommand c)) (noHalfCommand cs) e)
-
-single-by : (c : Code) (cs : List Code) (t : Bool) → isSingle c ≡ t → (not t || hasTwoByteCode cs) ≡ false → (hasTwoByteCode cs ≡ false → twoBytePairs cs ≡ []) → twoBytePairs (c ∷ cs) ≡ []
-single-by c cs true single e rest = rw single (rest e)
-single-by c cs false two e rest = absurd (true≢false e)
-
-none-of-singles : (l : List Code) → hasTwoByteCode l ≡ false → twoBytePairs l ≡ []
-none-of-singles [] e = refl
-none-of-singles (c ∷ cs) e = single-by c cs (isSingle c) refl e (none-of-singles cs)
-
-commands-by : {p : Pair} {l : List Code} → MadeOf p l → isCommandPair p ≡ (hasTwoByteCode l || halfCommandFirst l) → noHalfCommand l ≡ true → commandPairs (p ∷ []) ≡ twoBytePairs l
-commands-by {p} (of-singles {l = l} e) told none-half =
-    let no : isCommandPair p ≡ false = told ∙ ap (λ (t : Bool). t || halfCommandFirst l) e ∙ no-half-first l none-half in
-    rw no (sym (none-of-singles l e))
-commands-by {p} (of-two-bytes c two same) told none-half =
-    let yes : isCommandPair p ≡ true = told ∙ ap (λ (t : Bool). (not t || false) || isHalfCommand c) two in
-    rw (yes, two) (ap (λ (x : Pair). x ∷ []) same)
-
-pub pop-gives-its-commands : (v : Queued) → Fit v → noHalfCommand (pop v .took) ≡ true → commandPairs (pop v .pair ∷ []) ≡ twoBytePairs (pop v .took)
-pop-gives-its-commands v f none-half = commands-by (made-of v f) (popped-is-a-command v f) none-half
-
 abbrev accepted : Reply
 accepted = toPush (answer tt)
 
@@ -209,13 +177,23 @@ pub text-is-refused : listReplies (pushing (unknown channelOne 0x41 0x42) ∷ po
 unfolding ones onesIn writeCode inDomain queueable admit pairOf pop
 text-is-refused = refl
 
--- the byte is taken as it is stored: 0F and 20 are refused on either channel, 10 and 1F accepted
-pub first-bytes :
-    (listReplies (pushing (unknown channelTwo 0x0F 0x41) ∷ pushing (unknown channelOne 0x20 0x41) ∷ []) empty ≡ toPush (refused 18) ∷ toPush (refused 18) ∷ [])
-    × (listReplies (pushing (unknown channelTwo 0x10 0x41) ∷ popping ∷ []) empty ≡ accepted ∷ toPop (answer (pair 0x98 0xC1)) ∷ [])
-    × (listReplies (pushing (unknown channelOne 0x1F 0x41) ∷ popping ∷ []) empty ≡ accepted ∷ toPop (answer (pair 0x1F 0xC1)) ∷ [])
+-- on either channel 0F and 20 are refused, and 10 and 1F accepted
+abbrev alone : Channel → ℕ → List Reply
+alone ch a = listReplies (pushing (unknown ch a 0x41) ∷ popping ∷ []) empty
+
+abbrev refused-18 : List Reply
+refused-18 = toPush (refused 18) ∷ toPop (answer (pair 0x80 0x80)) ∷ []
+
+pub first-bytes-refused : (alone channelOne 0x0F ≡ refused-18) × (alone channelOne 0x20 ≡ refused-18) × (alone channelTwo 0x0F ≡ refused-18) × (alone channelTwo 0x20 ≡ refused-18)
+unfolding inDomain queueable admit pop
+first-bytes-refused = (refl, refl, refl, refl)
+
+abbrev goes-out : ℕ → List Reply
+goes-out a = accepted ∷ toPop (answer (pair a 0xC1)) ∷ []
+
+pub first-bytes-accepted : (alone channelOne 0x10 ≡ goes-out 0x10) × (alone channelOne 0x1F ≡ goes-out 0x1F) × (alone channelTwo 0x10 ≡ goes-out 0x98) × (alone channelTwo 0x1F ≡ goes-out 0x1F)
 unfolding ones onesIn writeCode inDomain queueable admit pairOf pop
-first-bytes = (refl, refl, refl)
+first-bytes-accepted = (refl, refl, refl, refl)
 
 -- 2 comes before 18, and 18 before 7
 pub between-2-and-7 :

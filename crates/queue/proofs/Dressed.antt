@@ -1,20 +1,14 @@
--- What may be queued can be written, and is no text dressed as a command. Such text is a two-byte `Unknown` whose own
--- first byte is not 10 to 1F, and nothing else is.
+-- What may be queued can be written, and is no text dressed as a command; which is a two-byte code that is not sent as a
+-- command.
 -- Assumes nothing.
 use mathlib.Core.Bool.{Bool, true, false, not, true≢false}
 use mathlib.Core.Path.{_≡_, refl, ap, sym, _∙_}
-use Prim.Native.Nat.{ℕ}
-use borrow.Author.Tests.{not-true}
 use Rattle.code.specs.Outcome.{Outcome, answer, refused}
-use Rattle.code.specs.Read.{isCommand}
-use Rattle.code.specs.Write.{inDomain}
-use Rattle.code.specs.declared.channel.Channel.{Channel}
+use Rattle.code.specs.Write.{inDomain, isCommandControl}
 use Rattle.code.specs.declared.code.Code.{Code}
-use Rattle.code.specs.declared.code.Code.the-variants as code
-use Rattle.code.specs.declared.control.CodeField.{CodeField}
 use Rattle.code.specs.declared.control.Control.{Control}
 use Rattle.code.specs.declared.control.Control.the-variants as control
-use Rattle.queue.specs.Queueable.{isAnswer, isDressed, isQueueable, queueable, unlessDressed}
+use Rattle.queue.specs.Queueable.{isAnswer, isDressed, isDressedControl, isQueueable, queueable, unlessDressed}
 
 written-by : (dressed : Bool) (o : Outcome Unit) → isAnswer (unlessDressed dressed o) ≡ true → isAnswer o ≡ true
 written-by dressed (answer u) e = refl
@@ -46,36 +40,11 @@ pub others-as-written : (c : Code) → isDressed c ≡ false → queueable c ≡
 unfolding queueable
 others-as-written c e = ap (λ (t : Bool). unlessDressed t (inDomain c)) e ∙ undressed (inDomain c)
 
--- what 18 is about, in T-04's words
-pub record DressedUnknown (c : Code) : Type 0 where
-  pub field : CodeField
-  pub channel : Channel
-  pub first : ℕ
-  pub second : ℕ
-  pub is-unknown : c ≡ code.Control (record { field = field; channel = channel; control = control.Unknown first second })
-  pub no-command : isCommand first ≡ false
-
-dressed-control : (f : CodeField) (ch : Channel) (c : Control) → isDressed (code.Control (record { field = f; channel = ch; control = c })) ≡ true → DressedUnknown (code.Control (record { field = f; channel = ch; control = c }))
-dressed-control f ch (control.MidRow m) e = absurd (true≢false (sym e))
-dressed-control f ch (control.Symbol s) e = absurd (true≢false (sym e))
-dressed-control f ch (control.Command k) e = absurd (true≢false (sym e))
-dressed-control f ch (control.Tab t) e = absurd (true≢false (sym e))
-dressed-control f ch (control.Preamble p) e = absurd (true≢false (sym e))
-dressed-control f ch (control.Unknown a b) e = record {
-  field = f;
-  channel = ch;
-  first = a;
-  second = b;
-  is-unknown = refl;
-  no-command = not-true (isCommand a) e;
-}
-
-pub dressed-is-an-unknown : (c : Code) → isDressed c ≡ true → DressedUnknown c
-dressed-is-an-unknown code.Nul e = absurd (true≢false (sym e))
-dressed-is-an-unknown (code.Letter l) e = absurd (true≢false (sym e))
-dressed-is-an-unknown (code.Unknown b) e = absurd (true≢false (sym e))
-dressed-is-an-unknown (code.Control c) e = dressed-control (c .field) (c .channel) (c .control) e
-
--- and every such `Unknown` is one
-pub such-an-unknown-is-dressed : (c : Code) → DressedUnknown c → isDressed c ≡ true
-such-an-unknown-is-dressed c d = rw (d .is-unknown, d .no-command)
+-- a control code is such text exactly where it is not sent as a command
+pub dressed-or-command : (c : Control) → isDressedControl c ≡ not (isCommandControl c)
+dressed-or-command (control.MidRow m) = refl
+dressed-or-command (control.Symbol s) = refl
+dressed-or-command (control.Command k) = refl
+dressed-or-command (control.Tab t) = refl
+dressed-or-command (control.Preamble p) = refl
+dressed-or-command (control.Unknown a b) = refl

@@ -4,14 +4,14 @@ use mathlib.Core.Bool.{Bool, true, false}
 use Rattle.code.specs.Outcome.{Outcome, answer, refused}
 use Rattle.queue.specs.declared.push.Admission.{Admission}
 use Rattle.queue.specs.declared.push.Admission.the-variants as admission
-use Rattle.queue.specs.declared.queueable.Queueable.{Queueable}
-use Rattle.queue.specs.declared.queueable.Queueable.the-variants as may
+use Rattle.queue.specs.declared.queueable.Verdict.{Verdict}
+use Rattle.queue.specs.declared.queueable.Verdict.the-variants as verdict
 
-abbrev pub queueableOutcome : Queueable → Outcome Unit
-queueableOutcome may.Yes = answer tt
-queueableOutcome may.UnknownByte = refused 2
-queueableOutcome may.NoSuchRow = refused 3
-queueableOutcome may.NotACommand = refused 18
+abbrev pub verdictOutcome : Verdict → Outcome Unit
+verdictOutcome verdict.Passes = answer tt
+verdictOutcome verdict.UnknownByte = refused 2
+verdictOutcome verdict.NoSuchRow = refused 3
+verdictOutcome verdict.NotACommand = refused 18
 
 abbrev pub admissionOutcome : Admission → Outcome Bool
 admissionOutcome admission.Stored = answer true

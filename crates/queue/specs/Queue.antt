@@ -60,7 +60,7 @@ ifRoom full (answer u) = cond full (refused 7) (answer true)
 ifRoom full (refused k) = refused k
 
 abbrev pub admitBy : Bool → Outcome Unit → Bool → Outcome Bool
-admitBy nul queueable full = cond nul (answer false) (ifRoom full queueable)
+admitBy nul may full = cond nul (answer false) (ifRoom full may)
 
 -- whether a code that is accepted is stored, with n waiting
 unfoldable pub admit : Code → ℕ → Outcome Bool

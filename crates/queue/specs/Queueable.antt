@@ -1,16 +1,29 @@
 -- What may be queued: a code that can be written, 01's refusals 2 and 3, and that is no text dressed as a command, T-04's
 -- refusal 18. Pushing, waiting, being held, and so 12, all rest on it.
-use mathlib.Core.Bool.{Bool, true, false, cond, _&&_, not}
-use lib.Dec.{eqb}
-use Rattle.code.specs.Code.{byteLen}
+use mathlib.Core.Bool.{Bool, true, false, cond, not}
 use Rattle.code.specs.Outcome.{Outcome, answer, refused}
-use Rattle.code.specs.Write.{inDomain, isCommandCode}
+use Rattle.code.specs.Read.{isCommand}
+use Rattle.code.specs.Write.{inDomain}
 use Rattle.code.specs.declared.code.Code.{Code}
+use Rattle.code.specs.declared.code.Code.the-variants as code
+use Rattle.code.specs.declared.control.Control.{Control}
+use Rattle.code.specs.declared.control.Control.the-variants as control
 
--- a two-byte code whose first byte, as it is stored and before channel and field are added, is not 10 to 1F; only an
--- `Unknown` can be one
+-- text dressed as a command: a two-byte `Unknown` whose first byte, as it is stored and before channel and field are
+-- added, is not 10 to 1F
+abbrev pub isDressedControl : Control → Bool
+isDressedControl (control.MidRow m) = false
+isDressedControl (control.Symbol s) = false
+isDressedControl (control.Command c) = false
+isDressedControl (control.Tab t) = false
+isDressedControl (control.Preamble p) = false
+isDressedControl (control.Unknown a b) = not (isCommand a)
+
 abbrev pub isDressed : Code → Bool
-isDressed c = eqb (byteLen c) 2 && not (isCommandCode c)
+isDressed code.Nul = false
+isDressed (code.Control c) = isDressedControl (c .control)
+isDressed (code.Letter l) = false
+isDressed (code.Unknown b) = false
 
 abbrev pub unlessDressed : Bool → Outcome Unit → Outcome Unit
 unlessDressed dressed (answer u) = cond dressed (refused 18) (answer tt)

@@ -3,12 +3,13 @@
 -- backspace; a command by itself; and with nothing taken 20 80 before the command now held, or padding. And which of
 -- these pairs are to be command pairs, by T-04: those that were made of a two-byte code. Half a command is the one
 -- exception.
-use mathlib.Core.Bool.{Bool, true, false, cond, _||_, _&&_, not}
+use mathlib.Core.Bool.{Bool, false, cond, _||_, not}
 use mathlib.Core.List.{List, [], _∷_}
 use mathlib.Core.Option.{Option, none, some}
+use mathlib.Core.Path.{_≡_}
 use Rattle.code.specs.Code.{needsBackspace}
 use Rattle.code.specs.Outcome.{Outcome, answer, refused}
-use Rattle.code.specs.Read.{isCommand, isCommandPair}
+use Rattle.code.specs.Read.{isCommand}
 use Rattle.code.specs.Write.{pair}
 use Rattle.code.specs.declared.code.Code.{Code}
 use Rattle.code.specs.declared.code.Code.the-variants as code
@@ -44,15 +45,7 @@ abbrev pub halfCommandFirst : List Code → Bool
 halfCommandFirst [] = false
 halfCommandFirst (c ∷ cs) = isHalfCommand c
 
-abbrev pub noHalfCommand : List Code → Bool
-noHalfCommand [] = true
-noHalfCommand (c ∷ cs) = not (isHalfCommand c) && noHalfCommand cs
-
--- the command pairs among pairs, and the pairs of the two-byte codes among codes
-abbrev pub commandPairs : List Pair → List Pair
-commandPairs [] = []
-commandPairs (p ∷ ps) = cond (isCommandPair p) (p ∷ commandPairs ps) (commandPairs ps)
-
-abbrev pub twoBytePairs : List Code → List Pair
-twoBytePairs [] = []
-twoBytePairs (c ∷ cs) = cond (isSingle c) (twoBytePairs cs) (pairOf c ∷ twoBytePairs cs)
+-- what a pair is made of: single codes alone, or one two-byte code, as that is written
+pub data MadeOf (p : Pair) : List Code → Type 0 where
+  of-singles : {l : List Code} → hasTwoByteCode l ≡ false → MadeOf p l
+  of-two-bytes : (c : Code) → isSingle c ≡ false → p ≡ pairOf c → MadeOf p (c ∷ [])

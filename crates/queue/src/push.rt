@@ -1,11 +1,11 @@
 // Putting a code into the queue.
 ghost use mathlib.Core.Path.{_≡_};
 ghost use Prim.Native.Nat.{_<_};
-ghost use Rattle.queue.specs.Admission.{admissionOutcome, queueableOutcome};
+ghost use Rattle.queue.specs.Admission.{admissionOutcome, verdictOutcome};
 ghost use Rattle.queue.specs.Queue.{admitBy, isFull};
 ghost use Rattle.queue.specs.Ring.{pushOutcome, pushRing, stored};
-use crate::queueable::Queueable;
-use crate::queueable::may_be_queued;
+use crate::queueable::Verdict;
+use crate::queueable::queueable;
 use crate::ring::Queue;
 use crate::ring::Slot;
 use crate::well_formed::is_nul;
@@ -38,23 +38,23 @@ pub(crate) enum Admission {
 }
 
 // What becomes of a code: NUL passes even where the queue is full, and 2, 3 and 18 are tested before 7.
-pub(crate) fn admission_of(nul: bool, queueable: Queueable, full: bool) -> Admission
-    ensures { λ r. ⌜ admissionOutcome r ≡ admitBy nul (queueableOutcome queueable) full ⌝ }
+pub(crate) fn admission_of(nul: bool, verdict: Verdict, full: bool) -> Admission
+    ensures { λ r. ⌜ admissionOutcome r ≡ admitBy nul (verdictOutcome verdict) full ⌝ }
 {
     if nul {
         return Admission::NotStored;
     }
-    match queueable {
-        Queueable::Yes => {
+    match verdict {
+        Verdict::Passes => {
             if full {
                 Admission::Full
             } else {
                 Admission::Stored
             }
         }
-        Queueable::UnknownByte => Admission::UnknownByte,
-        Queueable::NoSuchRow => Admission::NoSuchRow,
-        Queueable::NotACommand => Admission::NotACommand,
+        Verdict::UnknownByte => Admission::UnknownByte,
+        Verdict::NoSuchRow => Admission::NoSuchRow,
+        Verdict::NotACommand => Admission::NotACommand,
     }
 }
 
@@ -98,9 +98,9 @@ impl Queue {
             };
         }
         let nul = is_nul(code);
-        let may = may_be_queued(code);
+        let verdict = queueable(code);
         let full = self.is_full();
-        let answer = match admission_of(nul, may, full) {
+        let answer = match admission_of(nul, verdict, full) {
             Admission::Stored => {
                 let next = self.stored(code);
                 return Pushed {

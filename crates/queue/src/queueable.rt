@@ -1,43 +1,41 @@
 // Which codes may be queued.
-ghost use mathlib.Core.Bool.{not};
 ghost use mathlib.Core.Path.{_≡_};
 ghost use Rattle.code.specs.Read.{isCommand};
-ghost use Rattle.code.specs.Write.{isCommandControl};
-ghost use Rattle.queue.specs.Admission.{queueableOutcome};
-ghost use Rattle.queue.specs.Queueable.{isDressed, isQueueable, queueable};
+ghost use Rattle.queue.specs.Admission.{verdictOutcome};
+ghost use Rattle.queue.specs.Queueable.{isDressed, isDressedControl, isQueueable, queueable};
 use code::Code;
 use code::Control;
 use code::Domain;
 
 // `UnknownByte` is refusal 2, `NoSuchRow` refusal 3, `NotACommand` refusal 18.
-pub(crate) enum Queueable {
-    Yes,
+pub(crate) enum Verdict {
+    Passes,
     UnknownByte,
     NoSuchRow,
     NotACommand,
 }
 
-// Whether a first byte, channel and field aside, is a command's: 10 to 1F.
-fn starts_command(first: u8) -> bool
-    ensures { λ r. ⌜ r ≡ isCommand first ⌝ }
+// Whether a byte is the first of a command: 10 to 1F.
+fn starts_command(byte: u8) -> bool
+    ensures { λ r. ⌜ r ≡ isCommand byte ⌝ }
 {
-    if first < 0x10 {
+    if byte < 0x10 {
         return false;
     }
-    first <= 0x1F
+    byte <= 0x1F
 }
 
-// Whether the bytes of a control code start as a command does; those that have a meaning do.
-fn is_command(control: Control) -> bool
-    ensures { λ r. ⌜ r ≡ isCommandControl control ⌝ }
+// Whether a control code is text dressed as a command. Only an `Unknown` can be.
+fn is_dressed_control(control: Control) -> bool
+    ensures { λ r. ⌜ r ≡ isDressedControl control ⌝ }
 {
     match control {
-        Control::MidRow(_) => true,
-        Control::Symbol(_) => true,
-        Control::Command(_) => true,
-        Control::Tab(_) => true,
-        Control::Preamble(_) => true,
-        Control::Unknown(first, _) => starts_command(first),
+        Control::MidRow(_) => false,
+        Control::Symbol(_) => false,
+        Control::Command(_) => false,
+        Control::Tab(_) => false,
+        Control::Preamble(_) => false,
+        Control::Unknown(first, _) => !starts_command(first),
     }
 }
 
@@ -49,7 +47,7 @@ fn is_dressed(code: Code) -> bool
         Code::Nul => false,
         Code::Control(command) => {
             let control = command.control;
-            !is_command(control)
+            is_dressed_control(control)
         }
         Code::Letter(_) => false,
         Code::Unknown(_) => false,
@@ -57,19 +55,19 @@ fn is_dressed(code: Code) -> bool
 }
 
 // Whether a code may be queued: it can be written, and is no text dressed as a command.
-pub(crate) fn may_be_queued(code: Code) -> Queueable
-    ensures { λ r. ⌜ queueableOutcome r ≡ queueable code ⌝ }
+pub(crate) fn queueable(code: Code) -> Verdict
+    ensures { λ r. ⌜ verdictOutcome r ≡ queueable code ⌝ }
 {
     match code.domain() {
         Domain::Inside => {
             if is_dressed(code) {
-                Queueable::NotACommand
+                Verdict::NotACommand
             } else {
-                Queueable::Yes
+                Verdict::Passes
             }
         }
-        Domain::UnknownByte => Queueable::UnknownByte,
-        Domain::NoSuchRow => Queueable::NoSuchRow,
+        Domain::UnknownByte => Verdict::UnknownByte,
+        Domain::NoSuchRow => Verdict::NoSuchRow,
     }
 }
 
@@ -77,10 +75,10 @@ pub(crate) fn may_be_queued(code: Code) -> Queueable
 pub(crate) fn is_queueable(code: Code) -> bool
     ensures { λ r. ⌜ r ≡ isQueueable code ⌝ }
 {
-    match may_be_queued(code) {
-        Queueable::Yes => true,
-        Queueable::UnknownByte => false,
-        Queueable::NoSuchRow => false,
-        Queueable::NotACommand => false,
+    match queueable(code) {
+        Verdict::Passes => true,
+        Verdict::UnknownByte => false,
+        Verdict::NoSuchRow => false,
+        Verdict::NotACommand => false,
     }
 }

@@ -96,7 +96,7 @@ impl Queue {
         if !held.is_well_formed() {
             return false;
         }
-        // The ring is not copied where nothing waits, as between captions.
+        // Where nothing waits, as between captions, no place of the ring is looked at.
         if waiting == 0 {
             return true;
         }

@@ -82,21 +82,45 @@ fn session(to: &mut Transcript, random: &mut Random, bursts: u32, density: Densi
     met.arrived += arrived.len();
 }
 
-/// What was sent, and of that what the queue gave, which is all but the repeats.
+/// The codes that were accepted, what was sent, and of that what the queue gave, which is all but the
+/// repeats, with the codes of each pair.
 #[derive(Default)]
 struct Spoken {
+    accepted: Vec<Code>,
     sent: Vec<Pair>,
     popped: Vec<Pair>,
+    codes: Vec<Vec<Code>>,
 }
 
 impl Spoken {
+    fn push(&mut self, asked: &mut Asked, code: Code) {
+        let before = asked.n_codes();
+        asked.push(code);
+        if asked.n_codes() > before {
+            self.accepted.push(code);
+        }
+    }
+
     fn send(&mut self, asked: &mut Asked) {
         let is_repeat = asked.model.owed.is_some();
         let pair = asked.send();
         self.sent.push(pair);
         if !is_repeat {
             self.popped.push(pair);
+            self.codes.push(asked.model.writer.taken.clone());
         }
+    }
+
+    /// T-04's law over the whole run: each accepted code is in one of the queue's pairs, in order, and
+    /// what is a command by its codes is sent twice in a row, any other pair once.
+    fn check_codes(&self) {
+        assert_eq!(self.codes.concat(), self.accepted);
+        let mut by_codes = vec![];
+        for (&pair, codes) in self.popped.iter().zip(&self.codes) {
+            let copies = 1 + usize::from(queue::made_as_command(codes));
+            by_codes.extend(vec![pair; copies]);
+        }
+        assert_eq!(self.sent, by_codes);
     }
 
     fn send_until_idle(&mut self, asked: &mut Asked) {
@@ -118,7 +142,7 @@ fn speak(to: &mut Transcript, random: &mut Random, bursts: u32, met: &mut Met) -
             if random.below(4) != 0 {
                 code = any_code(random);
             }
-            asked.push(code);
+            spoken.push(&mut asked, code);
             if random.below(6) == 0 {
                 spoken.send(&mut asked);
             }
@@ -128,6 +152,7 @@ fn speak(to: &mut Transcript, random: &mut Random, bursts: u32, met: &mut Met) -
         }
     }
     spoken.send_until_idle(&mut asked);
+    spoken.check_codes();
     met.queue.add(&asked.model.writer.met);
     spoken
 }

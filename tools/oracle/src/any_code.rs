@@ -6,7 +6,7 @@ use crate::names::{COMMANDS, LETTERS, MID_ROW_COLOURS, STYLES, SYMBOLS, TABS};
 use crate::random::Random;
 use cea608_types::tables::{Code, Control};
 
-/// Any code, NUL and codes outside the domain among them.
+/// Any code, NUL and codes that may not be queued among them.
 pub fn any_code(random: &mut Random) -> Code {
     match random.below(13) {
         0 => Code::NUL,

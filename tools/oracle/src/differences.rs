@@ -129,6 +129,21 @@ fn to_be_queued() -> Vec<(Vec<Code>, Vec<Pair>)> {
         ),
         (vec![scroll, scroll], vec![[0x94, 0xAD], [0x94, 0xAD]]),
         (vec![Code::Unknown(0x14), A], vec![[0x94, 0xC1]]),
+        (vec![Code::Unknown(0x14)], vec![[0x94, 0x80]]),
+        (
+            vec![Code::Unknown(0x14), scroll],
+            vec![[0x94, 0x80], [0x94, 0xAD]],
+        ),
+        (
+            vec![Code::Unknown(0x14), plain(SYMBOLS[16])],
+            vec![[0x94, 0x20], [0x92, 0x20]],
+        ),
+        (
+            [[0xC1, 0x80], [0xC1, 0x94], [0xC2, 0x80]]
+                .map(read)
+                .concat(),
+            vec![[0xC1, 0xC1], [0x94, 0xC2]],
+        ),
         (
             vec![A, unknown([0x10, 0x20])],
             vec![[0xC1, 0x80], [0x10, 0x20]],
@@ -170,6 +185,15 @@ fn text_as_a_command(to: &mut Transcript) {
     let refused = asked.model.writer.met.answered[usize::from(NOT_A_COMMAND)];
     assert_eq!(refused, 1);
     assert!(asked.ask_idle());
+}
+
+/// The codes of a pair, NUL left out.
+fn read(pair: Pair) -> Vec<Code> {
+    let codes = Code::from_data(pair).expect("the pair has odd parity");
+    codes
+        .into_iter()
+        .filter(|&code| code != Code::NUL)
+        .collect()
 }
 
 fn unknown(bytes: [u8; 2]) -> Code {

@@ -27,8 +27,8 @@ pub struct Met {
     pub answered: [usize; 19],
     nul_while_full: usize,
     text_while_full: usize,
-    /// Pairs made of a two-byte code, of half a command and what is after it, and of other codes.
-    made: [usize; 3],
+    /// How many pairs were made of each kind of codes, in the order of `MADE`.
+    made: [usize; MADE.len()],
 }
 
 impl Met {
@@ -50,11 +50,31 @@ impl Met {
         }
         assert!(self.nul_while_full > 10, "too few NULs into a full queue");
         assert!(self.text_while_full > 10, "too few 18s of a full queue");
-        assert!(
-            self.made.iter().all(|&count| count > 100),
-            "too few: {:?}",
-            self.made
-        );
+        for (count, what) in self.made.iter().zip(MADE) {
+            assert!(*count > 100, "too few pairs made of {what}");
+        }
+    }
+}
+
+/// What a pair can be made of.
+const MADE: [&str; 5] = [
+    "no code",
+    "single codes",
+    "half a command first",
+    "a two-byte Unknown",
+    "another two-byte code",
+];
+
+fn kind_of(taken: &[Code]) -> usize {
+    match taken.first() {
+        None => 0,
+        Some(&Code::Unknown(byte)) if is_first_of_command(byte) => 2,
+        Some(Code::Control(ControlCode {
+            control: Control::Unknown(_),
+            ..
+        })) => 3,
+        Some(Code::Control(_)) => 4,
+        Some(_) => 1,
     }
 }
 
@@ -70,7 +90,7 @@ fn is_dressed(code: Code) -> bool {
     }
 }
 
-fn is_first_of_command(byte: u8) -> bool {
+pub fn is_first_of_command(byte: u8) -> bool {
     (0x10..=0x1F).contains(&byte)
 }
 
@@ -80,6 +100,8 @@ pub struct Writer {
     writer: Cea608Writer,
     /// The codes that are in the writer, in order.
     inside: VecDeque<Code>,
+    /// The codes that the last pop took.
+    pub taken: Vec<Code>,
     pub met: Met,
 }
 
@@ -132,33 +154,10 @@ impl Writer {
     pub fn pop(&mut self) -> [u8; 2] {
         let before = self.n_codes();
         let pair = self.writer.pop();
-        let taken: Vec<Code> = self.inside.drain(..before - self.n_codes()).collect();
-        self.made_of(pair, &taken);
+        self.taken = self.inside.drain(..before - self.n_codes()).collect();
+        self.met.made[kind_of(&self.taken)] += 1;
+        check_made(pair, &self.taken);
         pair
-    }
-
-    /// T-04's law, of the crate's own pair: it is a command pair exactly where a two-byte code was
-    /// taken, which is then alone and as it is written. Half a command that goes first is the one
-    /// exception.
-    fn made_of(&mut self, pair: [u8; 2], taken: &[Code]) {
-        let of_two_bytes = taken.iter().any(|code| code.byte_len() == 2);
-        let half_first =
-            matches!(taken.first(), Some(&Code::Unknown(byte)) if is_first_of_command(byte));
-        assert_eq!(
-            is_command(pair),
-            of_two_bytes || half_first,
-            "{pair:02X?} of {taken:?}"
-        );
-        if of_two_bytes {
-            assert_eq!(taken.len(), 1, "{taken:?}");
-            assert_eq!(written(taken[0]), Ok((pair, 2)));
-        }
-        let kind = if of_two_bytes {
-            0
-        } else {
-            2 - usize::from(half_first)
-        };
-        self.met.made[kind] += 1;
     }
 
     pub fn reset(&mut self) {
@@ -171,13 +170,33 @@ impl Writer {
         self.reset();
         if let Some(held) = pieces.held {
             // A single code first: the pop sends it and holds the command.
-            self.put(LETTERS[0]);
+            self.writer.push(LETTERS[0]);
             self.put(held);
-            self.pop();
+            self.writer.pop();
         }
         for place in 0..pieces.waiting {
             self.put(pieces.slots[(pieces.start + place) % PLACES]);
         }
+    }
+}
+
+/// Whether a pair is to be a command pair, by the codes that it is made of: a two-byte code is among
+/// them, or half a command is the first.
+pub fn made_as_command(taken: &[Code]) -> bool {
+    taken.iter().any(|code| code.byte_len() == 2) || kind_of(taken) == 2
+}
+
+/// T-04's law, of the crate's own pair: it is a command pair exactly where its codes make it one, and
+/// a two-byte code is alone in it, as it is written.
+fn check_made(pair: [u8; 2], taken: &[Code]) {
+    assert_eq!(
+        is_command(pair),
+        made_as_command(taken),
+        "{pair:02X?} of {taken:?}"
+    );
+    if taken.iter().any(|code| code.byte_len() == 2) {
+        assert_eq!(taken.len(), 1, "{taken:?}");
+        assert_eq!(written(taken[0]), Ok((pair, 2)));
     }
 }
 

@@ -5,27 +5,27 @@ use borrow.Author.Needs.{needs}
 use mathlib.Core.Bool.{Bool, true, false}
 use mathlib.Core.Path.{_≡_, refl}
 use Rattle.code.specs.Outcome.{answer, refused}
-use Rattle.queue.specs.Admission.{queueableOutcome}
+use Rattle.queue.specs.Admission.{verdictOutcome}
 use Rattle.queue.specs.Queue.{admitBy}
-use Rattle.queue.specs.declared.queueable.Queueable.{Queueable}
-use Rattle.queue.specs.declared.queueable.Queueable.the-variants as may
+use Rattle.queue.specs.declared.queueable.Verdict.{Verdict}
+use Rattle.queue.specs.declared.queueable.Verdict.the-variants as verdict
 use Rattle.queue.proofs.push.admission_of.Statement.{statement}
 use Rattle.queue.proofs.push.admission_of.Tie as tie
 
 -- what has to have been found before each answer
-full-is-refused : (nul : Bool) (d : Queueable) (full : Bool) → nul ≡ false → d ≡ may.Yes → full ≡ true → admitBy nul (queueableOutcome d) full ≡ refused 7
+full-is-refused : (nul : Bool) (d : Verdict) (full : Bool) → nul ≡ false → d ≡ verdict.Passes → full ≡ true → admitBy nul (verdictOutcome d) full ≡ refused 7
 full-is-refused nul d full no-nul inside is-full = rw (no-nul, inside, is-full) refl
 
-room-is-used : (nul : Bool) (d : Queueable) (full : Bool) → nul ≡ false → d ≡ may.Yes → full ≡ false → admitBy nul (queueableOutcome d) full ≡ answer true
+room-is-used : (nul : Bool) (d : Verdict) (full : Bool) → nul ≡ false → d ≡ verdict.Passes → full ≡ false → admitBy nul (verdictOutcome d) full ≡ answer true
 room-is-used nul d full no-nul inside has-room = rw (no-nul, inside, has-room) refl
 
-unknown-is-refused : (nul : Bool) (d : Queueable) (full : Bool) → nul ≡ false → d ≡ may.UnknownByte → admitBy nul (queueableOutcome d) full ≡ refused 2
+unknown-is-refused : (nul : Bool) (d : Verdict) (full : Bool) → nul ≡ false → d ≡ verdict.UnknownByte → admitBy nul (verdictOutcome d) full ≡ refused 2
 unknown-is-refused nul d full no-nul outside = rw (no-nul, outside) refl
 
-row-is-refused : (nul : Bool) (d : Queueable) (full : Bool) → nul ≡ false → d ≡ may.NoSuchRow → admitBy nul (queueableOutcome d) full ≡ refused 3
+row-is-refused : (nul : Bool) (d : Verdict) (full : Bool) → nul ≡ false → d ≡ verdict.NoSuchRow → admitBy nul (verdictOutcome d) full ≡ refused 3
 row-is-refused nul d full no-nul outside = rw (no-nul, outside) refl
 
-command-is-refused : (nul : Bool) (d : Queueable) (full : Bool) → nul ≡ false → d ≡ may.NotACommand → admitBy nul (queueableOutcome d) full ≡ refused 18
+command-is-refused : (nul : Bool) (d : Verdict) (full : Bool) → nul ≡ false → d ≡ verdict.NotACommand → admitBy nul (verdictOutcome d) full ≡ refused 18
 command-is-refused nul d full no-nul outside = rw (no-nul, outside) refl
 
 returns : tie.Need-returns

@@ -1,7 +1,6 @@
 -- `queue::queueable::is_dressed` meets its contract: a single code is none, and a control code by its first byte.
 -- Assumes nothing.
 use borrow.Author.Needs.{needs}
-use mathlib.Core.Bool.{not}
 use mathlib.Core.Path.{ap, sym}
 use Rattle.queue.specs.Queueable.{isDressed}
 use Rattle.queue.proofs.queueable.is_dressed.Statement.{statement}
@@ -13,8 +12,8 @@ enum-told c = search needs
 enum-known-code : tie.Need-enum-known-code
 enum-known-code c = search needs
 
-is-command-requires : tie.Need-is-command-requires
-is-command-requires c κs = search needs
+is-dressed-control-requires : tie.Need-is-dressed-control-requires
+is-dressed-control-requires c κs = search needs
 
 enum-told-2 : tie.Need-enum-told-2
 enum-told-2 c = search needs
@@ -26,7 +25,7 @@ returns : tie.Need-returns
 returns c = sym (ap isDressed (c .enum-told .given .1))
 
 returns-2 : tie.Need-returns-2
-returns-2 c = rw (c .before .before .code .given .1) (ap not (c .is-command .ensures))
+returns-2 c = rw (c .before .before .code .given .1) (c .is-dressed-control .ensures)
 
 returns-3 : tie.Need-returns-3
 returns-3 c = sym (ap isDressed (c .enum-told2 .given .1))
@@ -40,7 +39,7 @@ is-dressed-spec =
     (tie.spec
     enum-told
     enum-known-code
-    is-command-requires
+    is-dressed-control-requires
     enum-told-2
     enum-told-3
     returns

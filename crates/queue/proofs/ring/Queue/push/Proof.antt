@@ -23,7 +23,7 @@ is-formed c =
 
 admission : (c : tie.After-admission-of) → admissionOutcome (c .admission-of .result) ≡ admit (c .before .before .before .before .before .before .args .code) (c .before .before .before .before .before .before .args .self .waiting)
 admission c =
-    admission-is _ _ (c .admission-of .ensures) (c .before .before .before .is-nul .ensures) (c .before .before .may-be-queued .ensures) (c .before .is-full .ensures)
+    admission-is _ _ (c .admission-of .ensures) (c .before .before .before .is-nul .ensures) (c .before .before .queueable .ensures) (c .before .is-full .ensures)
 
 is-pushed : (c : tie.After-admission-of) (a : Admission) → c .admission-of .result ≡ a → entered (admissionOutcome a) (stored (c .before .before .before .before .before .before .args .self) (c .before .before .before .before .before .before .args .code)) (c .before .before .before .before .before .before .args .self) ≡ pushRing (c .before .before .before .before .before .before .args .self) (c .before .before .before .before .before .before .args .code)
 is-pushed c a e = pushed-as _ _ (is-formed c) _ (sym (ap admissionOutcome e) ∙ admission c)
@@ -38,8 +38,8 @@ returns c = simp (← c .before .is-well-formed .ensures, not-true (c .before .i
 is-nul-requires : tie.Need-is-nul-requires
 is-nul-requires c κs = search needs
 
-may-be-queued-requires : tie.Need-may-be-queued-requires
-may-be-queued-requires c κs = search needs
+queueable-requires : tie.Need-queueable-requires
+queueable-requires c κs = search needs
 
 is-full-requires : tie.Need-is-full-requires
 is-full-requires c κs = search needs
@@ -96,7 +96,7 @@ push-spec =
     is-well-formed-requires
     returns
     is-nul-requires
-    may-be-queued-requires
+    queueable-requires
     is-full-requires
     admission-of-requires
     enum-told

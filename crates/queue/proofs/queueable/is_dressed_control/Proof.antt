@@ -1,8 +1,10 @@
--- `queue::queueable::is_command` meets its contract, by the kind of the control.
+-- `queue::queueable::is_dressed_control` meets its contract, by the kind of the control.
 -- Assumes nothing.
 use borrow.Author.Needs.{needs}
-use Rattle.queue.proofs.queueable.is_command.Statement.{statement}
-use Rattle.queue.proofs.queueable.is_command.Tie as tie
+use mathlib.Core.Bool.{not}
+use mathlib.Core.Path.{ap}
+use Rattle.queue.proofs.queueable.is_dressed_control.Statement.{statement}
+use Rattle.queue.proofs.queueable.is_dressed_control.Tie as tie
 
 enum-told : tie.Need-enum-told
 enum-told c = search needs
@@ -41,10 +43,10 @@ returns-5 : tie.Need-returns-5
 returns-5 c = search needs
 
 returns-6 : tie.Need-returns-6
-returns-6 c = rw (c .before .before .control .given .1) (c .starts-command .ensures)
+returns-6 c = rw (c .before .before .control .given .1) (ap not (c .starts-command .ensures))
 
-pub is-command-spec : {M : Type 1} → statement M
-is-command-spec =
+pub is-dressed-control-spec : {M : Type 1} → statement M
+is-dressed-control-spec =
     tie.close
     (tie.spec
     enum-told

@@ -1,4 +1,4 @@
--- `queue::queueable::may_be_queued` meets its contract: what the code layer refuses is refused so, and the rest by
+-- `queue::queueable::queueable` meets its contract: what the code layer refuses is refused so, and the rest by
 -- whether it is text dressed as a command.
 -- Assumes nothing.
 use borrow.Author.Needs.{needs}
@@ -8,8 +8,8 @@ use Rattle.code.specs.Outcome.{Outcome}
 use Rattle.code.specs.Write.{domainOutcome, inDomain}
 use Rattle.code.specs.declared.code.Code.{Code}
 use Rattle.queue.specs.Queueable.{isDressed, queueable, unlessDressed}
-use Rattle.queue.proofs.queueable.may_be_queued.Statement.{statement}
-use Rattle.queue.proofs.queueable.may_be_queued.Tie as tie
+use Rattle.queue.proofs.queueable.queueable.Statement.{statement}
+use Rattle.queue.proofs.queueable.queueable.Tie as tie
 
 by-parts : (c : Code) (t : Bool) (o : Outcome Unit) → t ≡ isDressed c → o ≡ inDomain c → unlessDressed t o ≡ queueable c
 unfolding queueable
@@ -48,8 +48,8 @@ returns-4 : tie.Need-returns-4
 returns-4 c =
     by-parts _ _ _ refl (sym (ap domainOutcome (c .enum-told3 .given .1)) ∙ c .before .before .domain .ensures)
 
-pub may-be-queued-spec : {M : Type 1} → statement M
-may-be-queued-spec =
+pub queueable-spec : {M : Type 1} → statement M
+queueable-spec =
     tie.close
     (tie.spec
     domain-requires
