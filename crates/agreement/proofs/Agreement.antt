@@ -28,7 +28,7 @@ nothing-owed : (o : Option Pair) → noneOwed o ≡ true → stillOwed o ≡ []
 nothing-owed none e = refl
 nothing-owed (some p) e = absurd (true≢false (sym e))
 
-pub acts-stay-good : (acts : List Act) (s : Sender) → Good s → Good (afterActs acts s)
+acts-stay-good : (acts : List Act) (s : Sender) → Good s → Good (afterActs acts s)
 acts-stay-good [] s g = g
 acts-stay-good (queueing c ∷ acts) s g = acts-stay-good acts (pushSender s c .1) (push-good s c g)
 acts-stay-good (sending ∷ acts) s g = acts-stay-good acts (sendSender s .1) (send-good s g)

@@ -35,7 +35,7 @@ use Rattle.agreement.specs.Agreement.{Act, queueing, sending, Agreement,
 use Rattle.agreement.specs.Agreement as agreed
 use Rattle.agreement.specs.OneByOne as one
 use Rattle.agreement.specs.Pairs.{carriageReturn, hi, rollUp2}
-use Rattle.agreement.specs.QueuedCommands.{made}
+use Rattle.agreement.specs.QueuedCommands.{packed}
 use Rattle.sender.specs.Sender.{freshSender, idleSender, pushSender, sendSender, wellFormed}
 use Rattle.sender.specs.Sending.{send}
 
@@ -63,8 +63,8 @@ pub what-is-sent : (sentBy programme freshSender ≡ line) × (queuePairs progra
 unfolding ones onesIn writeCode inDomain queueable admit pairOf pop pushRing popRing ring.wellFormed wellFormed pushSender send sendSender idleSender
 what-is-sent = (refl, refl, refl)
 
--- what each pair was made of
-pub what-it-is-made-of : made programme freshSender ≡ record { pair = rollUp2; codes = command RollUp2 ∷ [] } ∷ record { pair = carriageReturn; codes = command CarriageReturn ∷ [] } ∷ record { pair = hi; codes = code.Letter (letterAt 0x28) ∷ code.Letter (letterAt 0x49) ∷ [] } ∷ []
+-- what each pair was packed of
+pub what-it-is-made-of : packed programme freshSender ≡ record { pair = rollUp2; codes = command RollUp2 ∷ [] } ∷ record { pair = carriageReturn; codes = command CarriageReturn ∷ [] } ∷ record { pair = hi; codes = code.Letter (letterAt 0x28) ∷ code.Letter (letterAt 0x49) ∷ [] } ∷ []
 unfolding ones onesIn writeCode inDomain queueable admit pairOf pop pushRing popRing ring.wellFormed wellFormed pushSender send sendSender
 what-it-is-made-of = refl
 
@@ -128,7 +128,7 @@ abbrev halfACommand : List Act
 halfACommand =
     queueing (code.Unknown 0x14) ∷ queueing (code.Letter (letterAt 0x21)) ∷ sending ∷ sending ∷ []
 
-pub half-a-command-is-sent-twice : (made halfACommand freshSender ≡ record { pair = pair 0x94 0xC1; codes = code.Unknown 0x14 ∷ code.Letter (letterAt 0x21) ∷ [] } ∷ []) × (sentBy halfACommand freshSender ≡ pair 0x94 0xC1 ∷ pair 0x94 0xC1 ∷ [])
+pub half-a-command-is-sent-twice : (packed halfACommand freshSender ≡ record { pair = pair 0x94 0xC1; codes = code.Unknown 0x14 ∷ code.Letter (letterAt 0x21) ∷ [] } ∷ []) × (sentBy halfACommand freshSender ≡ pair 0x94 0xC1 ∷ pair 0x94 0xC1 ∷ [])
 unfolding ones onesIn writeCode inDomain queueable admit pairOf pop pushRing popRing ring.wellFormed wellFormed pushSender send sendSender
 half-a-command-is-sent-twice = (refl, refl)
 

@@ -9,12 +9,14 @@ use Rattle.code.specs.Read.{isCommandPair}
 use Rattle.code.specs.declared.code.Code.{Code}
 use Rattle.code.specs.declared.pair.Pair.{Pair}
 use Rattle.queue.specs.Calls.{letIn, takenBy}
+use Rattle.queue.specs.Queue.{inside}
 use Rattle.queue.specs.Ring.{popRing}
 use Rattle.queue.specs.Sent.{MadeOf, halfCommandFirst, hasTwoByteCode}
 use Rattle.queue.specs.declared.ring.Queue.{Queue}
-use Rattle.sender.specs.Sender.{freshSender, owedIn, pushSender}
+use Rattle.sender.specs.Sender.{freshSender, owedIn, pushSender, view}
+use Rattle.sender.specs.Sending.{stillOwed}
 use Rattle.sender.specs.declared.sender.Sender.{Sender}
-use Rattle.agreement.specs.Agreement.{Act, queueing, sending, EndsIdle, acted, queuePairs, sentBy}
+use Rattle.agreement.specs.Agreement.{Act, queueing, sending, acted, afterActs, queuePairs, sentBy}
 
 -- the codes that the pushes let in, in order; NUL is accepted and not stored
 abbrev pub acceptedIn : Act → Sender → List Code
@@ -26,58 +28,59 @@ acceptedBy [] s = []
 acceptedBy (a ∷ acts) s = acceptedIn a s ++ acceptedBy acts (acted a s)
 
 -- the queue's pairs, each with the codes that its pop took
-pub record Made : Type 0 where
+pub record Packed : Type 0 where
   pub pair : Pair
   pub codes : List Code
 
-abbrev pub madeOf : Outcome Pair → List Code → List Made
-madeOf (answer p) taken = record { pair = p; codes = taken } ∷ []
-madeOf (refused n) taken = []
+abbrev pub packedOf : Outcome Pair → List Code → List Packed
+packedOf (answer p) taken = record { pair = p; codes = taken } ∷ []
+packedOf (refused n) taken = []
 
-abbrev pub madeBy : Option Pair → Queue → List Made
-madeBy (some p) q = []
-madeBy none q = madeOf (popRing q .0) (takenBy q)
+abbrev pub packedBy : Option Pair → Queue → List Packed
+packedBy (some p) q = []
+packedBy none q = packedOf (popRing q .0) (takenBy q)
 
-abbrev pub madeIn : Act → Sender → List Made
-madeIn (queueing c) s = []
-madeIn sending s = madeBy (owedIn (s .owed)) (s .queue)
+abbrev pub packedIn : Act → Sender → List Packed
+packedIn (queueing c) s = []
+packedIn sending s = packedBy (owedIn (s .owed)) (s .queue)
 
-abbrev pub made : List Act → Sender → List Made
-made [] s = []
-made (a ∷ acts) s = madeIn a s ++ made acts (acted a s)
+abbrev pub packed : List Act → Sender → List Packed
+packed [] s = []
+packed (a ∷ acts) s = packedIn a s ++ packed acts (acted a s)
 
-abbrev pub pairsIn : List Made → List Pair
+abbrev pub pairsIn : List Packed → List Pair
 pairsIn [] = []
 pairsIn (m ∷ ms) = m .pair ∷ pairsIn ms
 
-abbrev pub codesIn : List Made → List Code
+abbrev pub codesIn : List Packed → List Code
 codesIn [] = []
 codesIn (m ∷ ms) = m .codes ++ codesIn ms
 
 -- a command by its codes: a two-byte code is among them or, which is the one exception, half a command is the first
-abbrev pub madeAsCommand : List Code → Bool
-madeAsCommand codes = hasTwoByteCode codes || halfCommandFirst codes
+abbrev pub packsCommand : List Code → Bool
+packsCommand codes = hasTwoByteCode codes || halfCommandFirst codes
 
--- a pair that is made as it should be: of single codes alone or of one two-byte code as that is written, and a command
--- pair exactly where its codes make it one
-pub record WellMade (m : Made) : Type 0 where
-  pub made-of : MadeOf (m .pair) (m .codes)
-  pub command : isCommandPair (m .pair) ≡ madeAsCommand (m .codes)
+-- a pair that is made of its codes, and is a command pair exactly where they make it one
+pub record WellPacked (m : Packed) : Type 0 where
+  pub is-made-of : MadeOf (m .pair) (m .codes)
+  pub command : isCommandPair (m .pair) ≡ packsCommand (m .codes)
 
-abbrev pub AllWellMade : List Made → Type 0
-AllWellMade [] = Unit
-AllWellMade (m ∷ ms) = WellMade m × AllWellMade ms
+abbrev pub AllWellPacked : List Packed → Type 0
+AllWellPacked [] = Unit
+AllWellPacked (m ∷ ms) = WellPacked m × AllWellPacked ms
 
 -- a command by its codes is sent twice in a row, any other pair once
-abbrev pub sentByCodes : List Made → List Pair
+abbrev pub sentByCodes : List Packed → List Pair
 sentByCodes [] = []
-sentByCodes (m ∷ ms) = cond (madeAsCommand (m .codes)) (m .pair ∷ m .pair ∷ sentByCodes ms) (m .pair ∷ sentByCodes ms)
+sentByCodes (m ∷ ms) = cond (packsCommand (m .codes)) (m .pair ∷ m .pair ∷ sentByCodes ms) (m .pair ∷ sentByCodes ms)
 
+-- of any run, whatever is still inside and whatever is still owed aside: these are the queue's pairs, each accepted code
+-- is in one of them, in order, each is well packed, and they are sent by their codes
 pub record QueuedCommands (acts : List Act) : Type 0 where
-  pub all-pairs : pairsIn (made acts freshSender) ≡ queuePairs acts freshSender
-  pub all-codes : codesIn (made acts freshSender) ≡ acceptedBy acts freshSender
-  pub well-made : AllWellMade (made acts freshSender)
-  pub sent-by-codes : sentBy acts freshSender ≡ sentByCodes (made acts freshSender)
+  pub all-pairs : pairsIn (packed acts freshSender) ≡ queuePairs acts freshSender
+  pub all-codes : codesIn (packed acts freshSender) ++ inside (view (afterActs acts freshSender) .queue) ≡ acceptedBy acts freshSender
+  pub well-packed : AllWellPacked (packed acts freshSender)
+  pub sent-by-codes : sentBy acts freshSender ++ stillOwed (owedIn (afterActs acts freshSender .owed)) ≡ sentByCodes (packed acts freshSender)
 
 abbrev pub QueuedCommandsLaw : Type 0
-QueuedCommandsLaw = (acts : List Act) → EndsIdle acts → QueuedCommands acts
+QueuedCommandsLaw = (acts : List Act) → QueuedCommands acts

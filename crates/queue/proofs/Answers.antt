@@ -43,8 +43,8 @@ sent-pair-is-odd q p answered =
     let known = pop-answer q p (wellFormed q) refl answered in
     subst SentPair (sym (known .1)) (popped-is-sent (view q) (good-fits q (known .0)))
 
-pub sent-pair-is-read : (q : Queue) (p : Pair) → popRing q .0 ≡ answer p → readsCommand (readPair (p .0) (p .1)) ≡ isCommandPair p
-sent-pair-is-read q p answered =
+pub sent-pair-is-read-as-a-command : (q : Queue) (p : Pair) → popRing q .0 ≡ answer p → readsCommand (readPair (p .0) (p .1)) ≡ isCommandPair p
+sent-pair-is-read-as-a-command q p answered =
     let known = pop-answer q p (wellFormed q) refl answered in
     subst (λ (x : Pair). readsCommand (readPair (x .0) (x .1)) ≡ isCommandPair x) (sym (known .1))
     (popped-command (view q) (good-fits q (known .0)))

@@ -5,14 +5,15 @@
 use mathlib.Core.Bool.{Bool, true, false, cond, not, _||_, true≢false}
 use mathlib.Core.List.{List, [], _∷_, _++_}
 use mathlib.Core.Option.{Option, none, some}
-use mathlib.Core.Path.{_≡_, refl, ap, sym, subst, _∙_}
+use mathlib.Core.Path.{_≡_, refl, ap, ap₂, sym, subst, _∙_}
 use Prim.Native.Nat.{ℕ}
-use borrow.Author.Tests.{not-false}
+use borrow.Author.Tests.{eqb-true, not-false}
 use lib.Count.{ones, onesIn}
 use lib.Dec.{eqb}
 use lib.ListN.{replicate}
 use Rattle.code.proofs.Both.{both-left, both-right}
 use Rattle.code.proofs.CommandCodes.{written-says-command}
+use Rattle.code.proofs.Lengths.{not-one-is-two}
 use Rattle.code.proofs.Written.{domain-is-written, settled}
 use Rattle.code.specs.Channel.{channelOne, channelTwo}
 use Rattle.code.specs.Code.{byteLen, needsBackspace}
@@ -29,7 +30,7 @@ use Rattle.code.specs.declared.control.Control.the-variants as control
 use Rattle.code.specs.declared.pair.Pair.{Pair}
 use Rattle.code.specs.declared.preamble.PreambleType.the-variants as style
 use Rattle.queue.proofs.Order.{pop-takes-from-the-front}
-use Rattle.queue.proofs.Pairs.{popped-command}
+use Rattle.queue.proofs.Pairs.{code-goes-out-as-written, popped-command}
 use Rattle.queue.proofs.Dressed.{dressed-or-command, queueable-is-in-domain, queueable-is-not-dressed}
 use Rattle.queue.proofs.Sends.{held-is-no-single, pop-sends-what-it-took}
 use Rattle.queue.specs.Calls.{Reply, listReplies, popping, pushing, toPop, toPush}
@@ -96,33 +97,48 @@ pair-says (x ∷ []) none first = alone-first (isSingle x) x ∙ code-is-a-comma
 pair-says (x ∷ []) (some c) first = code-is-a-command x first
 pair-says (x ∷ y ∷ rest) h first = code-is-a-command x first
 
-abbrev Made : Pop → Type 0
-Made p = MadeOf (p .pair) (p .took)
+-- by the shape of a pop: it takes single codes alone, or one two-byte code, and sends that
+data Shaped (p : Pair) : List Code → Type 0 where
+  singles : {l : List Code} → hasTwoByteCode l ≡ false → Shaped p l
+  two-bytes : (c : Code) → isSingle c ≡ false → p ≡ pairOf c → Shaped p (c ∷ [])
 
-command-made : (x : Code) (rest : List Code) (t : Bool) → needsBackspace x ≡ t → isSingle x ≡ false → Made (popCommand x rest)
-command-made x rest true e two = rw e (of-singles refl)
-command-made x rest false e two = rw e (of-two-bytes x two refl)
+abbrev IsShaped : Pop → Type 0
+IsShaped p = Shaped (p .pair) (p .took)
 
-two-made : (x y : Code) (rest : List Code) (t : Bool) → isSingle y ≡ t → isSingle x ≡ true → Made (popTwo x y rest)
-two-made x y rest true e single = rw e (of-singles {l = x ∷ y ∷ []} (rw (single, e) refl))
-two-made x y rest false e single = rw e (of-singles {l = x ∷ []} (rw single refl))
+command-shaped : (x : Code) (rest : List Code) (t : Bool) → needsBackspace x ≡ t → isSingle x ≡ false → IsShaped (popCommand x rest)
+command-shaped x rest true e two = rw e (singles refl)
+command-shaped x rest false e two = rw e (two-bytes x two refl)
 
-single-made : (x : Code) (rest : List Code) → isSingle x ≡ true → Made (popSingle x rest)
-single-made x [] single = of-singles {l = x ∷ []} (rw single refl)
-single-made x (y ∷ rest) single = two-made x y rest (isSingle y) refl single
+two-shaped : (x y : Code) (rest : List Code) (t : Bool) → isSingle y ≡ t → isSingle x ≡ true → IsShaped (popTwo x y rest)
+two-shaped x y rest true e single = rw e (singles {l = x ∷ y ∷ []} (rw (single, e) refl))
+two-shaped x y rest false e single = rw e (singles {l = x ∷ []} (rw single refl))
 
-waiting-made : (x : Code) (rest : List Code) (t : Bool) → isSingle x ≡ t → Made (popWaiting (x ∷ rest))
-waiting-made x rest true e = rw e (single-made x rest e)
-waiting-made x rest false e = rw e (command-made x rest (needsBackspace x) refl e)
+single-shaped : (x : Code) (rest : List Code) → isSingle x ≡ true → IsShaped (popSingle x rest)
+single-shaped x [] single = singles {l = x ∷ []} (rw single refl)
+single-shaped x (y ∷ rest) single = two-shaped x y rest (isSingle y) refl single
 
-held-made : (h : Option Code) (l : List Code) → Fit (queued l h) → Made (popHeld h l)
-held-made (some c) l f = of-two-bytes c (held-is-no-single c (f .held)) refl
-held-made none [] f = of-singles refl
-held-made none (x ∷ rest) f = waiting-made x rest (isSingle x) refl
+waiting-shaped : (x : Code) (rest : List Code) (t : Bool) → isSingle x ≡ t → IsShaped (popWaiting (x ∷ rest))
+waiting-shaped x rest true e = rw e (single-shaped x rest e)
+waiting-shaped x rest false e = rw e (command-shaped x rest (needsBackspace x) refl e)
+
+held-shaped : (h : Option Code) (l : List Code) → Fit (queued l h) → IsShaped (popHeld h l)
+held-shaped (some c) l f = two-bytes c (held-is-no-single c (f .held)) refl
+held-shaped none [] f = singles refl
+held-shaped none (x ∷ rest) f = waiting-shaped x rest (isSingle x) refl
+
+shaped : (v : Queued) → Fit v → Shaped (pop v .pair) (pop v .took)
+unfolding pop
+shaped v f = held-shaped (v .held) (v .waiting) f
+
+made-by : {p : Pair} {l : List Code} (h : Option Code) → Shaped p l → p ≡ pairFor l h → FirstQueueable l → MadeOf p l
+made-by h (singles e) told first = of-singles h e told
+made-by {p} h (two-bytes c two same) told first =
+    of-two-bytes c
+    (code-goes-out-as-written c first
+    ∙ ap₂ {C = Outcome (Pair × ℕ)} (λ (x : Pair) (n : ℕ). answer (x, n)) (sym same) (eqb-true (byteLen c) 2 (not-one-is-two c two)))
 
 pub made-of : (v : Queued) → Fit v → MadeOf (pop v .pair) (pop v .took)
-unfolding pop
-made-of v f = held-made (v .held) (v .waiting) f
+made-of v f = made-by (pop v .next .held) (shaped v f) (pop-sends-what-it-took v f) (taken-queueable v f)
 
 -- so the first code tells whether there is a two-byte code
 first-tells : (t u h : Bool) → (t || u) ≡ false → (t || h) ≡ ((t || u) || h)
@@ -133,16 +149,16 @@ one-tells : (t h : Bool) → (t || h) ≡ ((t || false) || h)
 one-tells true h = refl
 one-tells false h = refl
 
-by-all : {p : Pair} {l : List Code} → MadeOf p l → firstIsACommand l ≡ (hasTwoByteCode l || halfCommandFirst l)
-by-all (of-singles {l = []} e) = refl
-by-all (of-singles {l = x ∷ l} e) = first-tells (not (isSingle x)) (hasTwoByteCode l) (isHalfCommand x) e
-by-all (of-two-bytes c two same) = one-tells (not (isSingle c)) (isHalfCommand c)
+by-all : {p : Pair} {l : List Code} → Shaped p l → firstIsACommand l ≡ (hasTwoByteCode l || halfCommandFirst l)
+by-all (singles {l = []} e) = refl
+by-all (singles {l = x ∷ l} e) = first-tells (not (isSingle x)) (hasTwoByteCode l) (isHalfCommand x) e
+by-all (two-bytes c two same) = one-tells (not (isSingle c)) (isHalfCommand c)
 
 pub popped-is-a-command : (v : Queued) → Fit v → isCommandPair (pop v .pair) ≡ (hasTwoByteCode (pop v .took) || halfCommandFirst (pop v .took))
 popped-is-a-command v f =
     ap isCommandPair (pop-sends-what-it-took v f)
     ∙ pair-says (pop v .took) (pop v .next .held) (taken-queueable v f)
-    ∙ by-all (made-of v f)
+    ∙ by-all (shaped v f)
 
 -- and it is read as a command there, and nowhere else
 pub popped-is-read : (v : Queued) → Fit v → readsCommand (readPair (pop v .pair .0) (pop v .pair .1)) ≡ (hasTwoByteCode (pop v .took) || halfCommandFirst (pop v .took))

@@ -1,14 +1,25 @@
--- What may be queued can be written, and is no text dressed as a command; which is a two-byte code that is not sent as a
--- command.
+-- What may be queued can be written, and is no text dressed as a command. What that is, that a push of it is refused 18,
+-- and that no well-formed queue has it inside.
 -- Assumes nothing.
-use mathlib.Core.Bool.{Bool, true, false, not, true≢false}
+use mathlib.Core.Bool.{Bool, true, false, _&&_, not, true≢false}
+use mathlib.Core.List.{List, [], _∷_, _++_}
+use mathlib.Core.Option.{Option, none, some}
 use mathlib.Core.Path.{_≡_, refl, ap, sym, _∙_}
+use Prim.Native.Nat.{ℕ}
+use lib.Dec.{eqb}
+use Rattle.code.proofs.Both.{both-left, both-right}
+use Rattle.code.specs.Code.{byteLen}
 use Rattle.code.specs.Outcome.{Outcome, answer, refused}
-use Rattle.code.specs.Write.{inDomain, isCommandControl}
+use Rattle.code.specs.Write.{inDomain, isCommandCode, isCommandControl}
 use Rattle.code.specs.declared.code.Code.{Code}
+use Rattle.code.specs.declared.code.Code.the-variants as code
 use Rattle.code.specs.declared.control.Control.{Control}
 use Rattle.code.specs.declared.control.Control.the-variants as control
+use Rattle.queue.proofs.WellFormed.{formed}
+use Rattle.queue.specs.Queue.{admit, heldCodes, inside, isNul, mayWait}
 use Rattle.queue.specs.Queueable.{isAnswer, isDressed, isDressedControl, isQueueable, queueable, unlessDressed}
+use Rattle.queue.specs.Ring.{allMayWait, heldFits, heldIn, pushRing, view, waitingIn, wellFormed}
+use Rattle.queue.specs.declared.ring.Queue.{Queue}
 
 written-by : (dressed : Bool) (o : Outcome Unit) → isAnswer (unlessDressed dressed o) ≡ true → isAnswer o ≡ true
 written-by dressed (answer u) e = refl
@@ -27,7 +38,11 @@ pub queueable-is-not-dressed : (c : Code) → isQueueable c ≡ true → isDress
 unfolding queueable
 queueable-is-not-dressed c e = undressed-by (isDressed c) (inDomain c) e
 
--- 18 is given to such text where it can be written, and every other code is queued exactly where it can be written
+-- what cannot be written is refused so; of the rest 18 is given to such text, and every other code may be queued
+pub refused-as-written : (c : Code) (n : ℕ) → inDomain c ≡ refused n → queueable c ≡ refused n
+unfolding queueable
+refused-as-written c n e = rw e refl
+
 pub dressed-is-refused : (c : Code) → isDressed c ≡ true → inDomain c ≡ answer tt → queueable c ≡ refused 18
 unfolding queueable
 dressed-is-refused c dressed can = rw (can, dressed) refl
@@ -40,7 +55,7 @@ pub others-as-written : (c : Code) → isDressed c ≡ false → queueable c ≡
 unfolding queueable
 others-as-written c e = ap (λ (t : Bool). unlessDressed t (inDomain c)) e ∙ undressed (inDomain c)
 
--- a control code is such text exactly where it is not sent as a command
+-- such text is a two-byte code that is not sent as a command, and nothing else is
 pub dressed-or-command : (c : Control) → isDressedControl c ≡ not (isCommandControl c)
 dressed-or-command (control.MidRow m) = refl
 dressed-or-command (control.Symbol s) = refl
@@ -48,3 +63,42 @@ dressed-or-command (control.Command k) = refl
 dressed-or-command (control.Tab t) = refl
 dressed-or-command (control.Preamble p) = refl
 dressed-or-command (control.Unknown a b) = refl
+
+pub dressed-exactly : (c : Code) → isDressed c ≡ (eqb (byteLen c) 2 && not (isCommandCode c))
+dressed-exactly code.Nul = refl
+dressed-exactly (code.Control c) = dressed-or-command (c .control)
+dressed-exactly (code.Letter l) = refl
+dressed-exactly (code.Unknown b) = refl
+
+-- a push of it, into whatever well-formed queue, full or not, is refused 18
+not-nul : (c : Code) → isDressed c ≡ true → isNul c ≡ false
+not-nul code.Nul e = sym e
+not-nul (code.Control c) e = refl
+not-nul (code.Letter l) e = refl
+not-nul (code.Unknown b) e = refl
+
+pub push-of-text : (q : Queue) (c : Code) → wellFormed q ≡ true → isDressed c ≡ true → inDomain c ≡ answer tt → pushRing q c ≡ (refused 18, q)
+unfolding pushRing admit
+push-of-text q c formed dressed can = rw (formed, not-nul c dressed, dressed-is-refused c dressed can) refl
+
+-- and no well-formed queue has it inside
+abbrev noneDressed : List Code → Bool
+noneDressed [] = true
+noneDressed (c ∷ cs) = not (isDressed c) && noneDressed cs
+
+one-undressed : (c : Code) (cs : List Code) → isQueueable c ≡ true → noneDressed cs ≡ true → noneDressed (c ∷ cs) ≡ true
+one-undressed c cs may rest = rw (queueable-is-not-dressed c may) rest
+
+waiting-undressed : (l : List Code) → allMayWait l ≡ true → noneDressed l ≡ true
+waiting-undressed [] all = refl
+waiting-undressed (c ∷ cs) all =
+    one-undressed c cs (both-right (not (isNul c)) (isQueueable c) (both-left (mayWait c) (allMayWait cs) all))
+    (waiting-undressed cs (both-right (mayWait c) (allMayWait cs) all))
+
+inside-undressed : (h : Option Code) (l : List Code) → heldFits h ≡ true → allMayWait l ≡ true → noneDressed (heldCodes h ++ l) ≡ true
+inside-undressed none l fits all = waiting-undressed l all
+inside-undressed (some c) l fits all =
+    one-undressed c l (both-right (eqb (byteLen c) 2) (isQueueable c) fits) (waiting-undressed l all)
+
+pub no-text-inside : (q : Queue) → wellFormed q ≡ true → noneDressed (inside (view q)) ≡ true
+no-text-inside q e = let f = formed q e in inside-undressed (heldIn (q .held)) (waitingIn q) (f .held) (f .codes)

@@ -10,7 +10,7 @@ use mathlib.Core.Path.{_≡_}
 use Rattle.code.specs.Code.{needsBackspace}
 use Rattle.code.specs.Outcome.{Outcome, answer, refused}
 use Rattle.code.specs.Read.{isCommand}
-use Rattle.code.specs.Write.{pair}
+use Rattle.code.specs.Write.{pair, writeCode}
 use Rattle.code.specs.declared.code.Code.{Code}
 use Rattle.code.specs.declared.code.Code.the-variants as code
 use Rattle.code.specs.declared.pair.Pair.{Pair}
@@ -45,7 +45,8 @@ abbrev pub halfCommandFirst : List Code → Bool
 halfCommandFirst [] = false
 halfCommandFirst (c ∷ cs) = isHalfCommand c
 
--- what a pair is made of: single codes alone, or one two-byte code, as that is written
+-- what a pair is made of: single codes alone, or none, as they stand before the command that is then held, if any; or
+-- one two-byte code, as it is written
 pub data MadeOf (p : Pair) : List Code → Type 0 where
-  of-singles : {l : List Code} → hasTwoByteCode l ≡ false → MadeOf p l
-  of-two-bytes : (c : Code) → isSingle c ≡ false → p ≡ pairOf c → MadeOf p (c ∷ [])
+  of-singles : {l : List Code} (held : Option Code) → hasTwoByteCode l ≡ false → p ≡ pairFor l held → MadeOf p l
+  of-two-bytes : (c : Code) → writeCode c ≡ answer (p, 2) → MadeOf p (c ∷ [])

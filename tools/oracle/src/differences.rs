@@ -131,6 +131,10 @@ fn to_be_queued() -> Vec<(Vec<Code>, Vec<Pair>)> {
         (vec![Code::Unknown(0x14), A], vec![[0x94, 0xC1]]),
         (vec![Code::Unknown(0x14)], vec![[0x94, 0x80]]),
         (
+            vec![Code::Unknown(0x01), Code::Unknown(0x03)],
+            vec![[0x01, 0x83]],
+        ),
+        (
             vec![Code::Unknown(0x14), scroll],
             vec![[0x94, 0x80], [0x94, 0xAD]],
         ),
@@ -171,20 +175,20 @@ fn sent(to: &mut Transcript, codes: &[Code], pairs: &[Pair]) {
     assert!(asked.ask_idle());
 }
 
-/// The crate holds text dressed as a command after a letter, as a command, and sends it as letters;
-/// the port refuses it, and has nothing to send.
+/// The crate holds text dressed as a command after a letter, as a command, and sends it as what it
+/// is; the port refuses it, and has nothing to send.
 fn text_as_a_command(to: &mut Transcript) {
-    let text = unknown([0x41, 0x42]);
-    let mut writer = Cea608Writer::default();
-    writer.push(A);
-    writer.push(text);
-    let popped = [writer.pop(), writer.pop()];
-    assert_eq!(popped, [[0xC1, 0x80], [0xC1, 0xC2]]);
-    let mut asked = Asked::new(to);
-    asked.push(text);
-    let refused = asked.model.writer.met.answered[usize::from(NOT_A_COMMAND)];
-    assert_eq!(refused, 1);
-    assert!(asked.ask_idle());
+    for (bytes, pair) in [([0x41, 0x42], [0xC1, 0xC2]), ([0x01, 0x03], [0x01, 0x83])] {
+        let mut writer = Cea608Writer::default();
+        writer.push(A);
+        writer.push(unknown(bytes));
+        assert_eq!([writer.pop(), writer.pop()], [[0xC1, 0x80], pair]);
+        let mut asked = Asked::new(to);
+        asked.push(unknown(bytes));
+        let refused = asked.model.writer.met.answered[usize::from(NOT_A_COMMAND)];
+        assert_eq!(refused, 1);
+        assert!(asked.ask_idle());
+    }
 }
 
 /// The codes of a pair, NUL left out.

@@ -27,8 +27,8 @@ pub struct Met {
     pub answered: [usize; 19],
     nul_while_full: usize,
     text_while_full: usize,
-    /// How many pairs were made of each kind of codes, in the order of `MADE`.
-    made: [usize; MADE.len()],
+    /// How many pairs were made of each kind of codes, in the order of `Made`.
+    made: [usize; KINDS],
 }
 
 impl Met {
@@ -50,32 +50,39 @@ impl Met {
         }
         assert!(self.nul_while_full > 10, "too few NULs into a full queue");
         assert!(self.text_while_full > 10, "too few 18s of a full queue");
-        for (count, what) in self.made.iter().zip(MADE) {
-            assert!(*count > 100, "too few pairs made of {what}");
-        }
+        let every_kind = self.made.iter().all(|&count| count > 100);
+        assert!(every_kind, "too few pairs of a kind: {:?}", self.made);
     }
 }
 
 /// What a pair can be made of.
-const MADE: [&str; 5] = [
-    "no code",
-    "single codes",
-    "half a command first",
-    "a two-byte Unknown",
-    "another two-byte code",
-];
+#[derive(Clone, Copy)]
+enum Made {
+    OfNoCode,
+    OfSingles,
+    WithHalfACommandFirst,
+    OfAnUnknownOfTwoBytes,
+    OfAnotherOfTwoBytes,
+}
 
-fn kind_of(taken: &[Code]) -> usize {
+const KINDS: usize = 5;
+
+fn kind_of(taken: &[Code]) -> Made {
     match taken.first() {
-        None => 0,
-        Some(&Code::Unknown(byte)) if is_first_of_command(byte) => 2,
+        None => Made::OfNoCode,
+        Some(&code) if is_half_command(code) => Made::WithHalfACommandFirst,
         Some(Code::Control(ControlCode {
             control: Control::Unknown(_),
             ..
-        })) => 3,
-        Some(Code::Control(_)) => 4,
-        Some(_) => 1,
+        })) => Made::OfAnUnknownOfTwoBytes,
+        Some(Code::Control(_)) => Made::OfAnotherOfTwoBytes,
+        Some(_) => Made::OfSingles,
     }
+}
+
+/// A one-byte `Unknown` of 0x10 to 0x1F.
+fn is_half_command(code: Code) -> bool {
+    matches!(code, Code::Unknown(byte) if is_first_of_command(byte))
 }
 
 /// Text dressed as a command: a two-byte `Unknown` whose first byte, as it is stored, is not 0x10 to
@@ -94,7 +101,7 @@ pub fn is_first_of_command(byte: u8) -> bool {
     (0x10..=0x1F).contains(&byte)
 }
 
-/// The crate's writer, with a push refused where 01 and 02 refuse it.
+/// The crate's writer, with a push refused where 01 and T-04 refuse it.
 #[derive(Default)]
 pub struct Writer {
     writer: Cea608Writer,
@@ -140,14 +147,20 @@ impl Writer {
             self.met.nul_while_full += usize::from(full);
             return 0;
         }
-        match written(code) {
-            Err(refusal) => refusal,
-            Ok(_) if is_dressed(code) => {
-                self.met.text_while_full += usize::from(full);
-                NOT_A_COMMAND
-            }
-            Ok(_) if full => FULL,
-            Ok(_) => 0,
+        let (pair, length) = match written(code) {
+            Err(refusal) => return refusal,
+            Ok(written) => written,
+        };
+        // The crate judges too: it reads the pair as single codes.
+        assert_eq!(is_dressed(code), length == 2 && is_read_as_singles(pair));
+        if is_dressed(code) {
+            self.met.text_while_full += usize::from(full);
+            return NOT_A_COMMAND;
+        }
+        if full {
+            FULL
+        } else {
+            0
         }
     }
 
@@ -155,8 +168,8 @@ impl Writer {
         let before = self.n_codes();
         let pair = self.writer.pop();
         self.taken = self.inside.drain(..before - self.n_codes()).collect();
-        self.met.made[kind_of(&self.taken)] += 1;
-        check_made(pair, &self.taken);
+        self.met.made[kind_of(&self.taken) as usize] += 1;
+        check_made(pair, &self.taken, self.inside.front().copied());
         pair
     }
 
@@ -180,24 +193,32 @@ impl Writer {
     }
 }
 
+fn is_read_as_singles(pair: [u8; 2]) -> bool {
+    Code::from_data(pair).is_ok_and(|[first, _]| first.byte_len() == 1)
+}
+
 /// Whether a pair is to be a command pair, by the codes that it is made of: a two-byte code is among
 /// them, or half a command is the first.
 pub fn made_as_command(taken: &[Code]) -> bool {
-    taken.iter().any(|code| code.byte_len() == 2) || kind_of(taken) == 2
+    let half_first = taken.first().is_some_and(|&code| is_half_command(code));
+    half_first || taken.iter().any(|code| code.byte_len() == 2)
 }
 
-/// T-04's law, of the crate's own pair: it is a command pair exactly where its codes make it one, and
-/// a two-byte code is alone in it, as it is written.
-fn check_made(pair: [u8; 2], taken: &[Code]) {
-    assert_eq!(
-        is_command(pair),
-        made_as_command(taken),
-        "{pair:02X?} of {taken:?}"
-    );
-    if taken.iter().any(|code| code.byte_len() == 2) {
-        assert_eq!(taken.len(), 1, "{taken:?}");
-        assert_eq!(written(taken[0]), Ok((pair, 2)));
-    }
+/// T-04's law, of the crate's own pair: it is what its codes are written as, before the code that is
+/// next, and a command pair exactly where they make it one.
+fn check_made(pair: [u8; 2], taken: &[Code], next: Option<Code>) {
+    let of = |code| written(code).expect("what was accepted can be written").0;
+    let made = match *taken {
+        [] if next.is_none() => [0x80, 0x80],
+        [] => [0x20, 0x80],
+        [code] if code.byte_len() == 2 => of(code),
+        [code] if next.is_some_and(|next| next.needs_backspace()) => [of(code)[0], 0x20],
+        [code] => [of(code)[0], 0x80],
+        [first, second] => [of(first)[0], of(second)[0]],
+        _ => panic!("{taken:?} in one pair"),
+    };
+    assert_eq!(pair, made, "of {taken:?} before {next:?}");
+    assert_eq!(is_command(pair), made_as_command(taken), "of {taken:?}");
 }
 
 /// A state of the queue, piece by piece, which a caller may hand in.

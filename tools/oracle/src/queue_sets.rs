@@ -46,12 +46,12 @@ fn every_unknown() -> Vec<Vec<Code>> {
     all
 }
 
-/// Each first byte of an `Unknown` of two bytes, before second bytes on either side of 0x20 to 0x2F
-/// and of 0x80, on every channel and field, before a letter and after one.
+/// Each first byte of an `Unknown` of two bytes, before second bytes on either side of the ends of
+/// 0x20 to 0x2F and of 0x80, on every channel and field, with a letter before it and one after it.
 fn every_unknown_of_two_bytes() -> Vec<Vec<Code>> {
     let mut all = vec![];
     for first in 0..=0xFF {
-        for second in [0x1F, 0x2F, 0x7F, 0x80] {
+        for second in [0x1F, 0x20, 0x2F, 0x30, 0x7F, 0x80] {
             for (field, channel) in every_field_and_channel() {
                 let unknown = control(field, channel, Control::Unknown([first, second]));
                 all.push(vec![LETTERS[33], unknown, LETTERS[33]]);

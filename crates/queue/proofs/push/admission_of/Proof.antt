@@ -13,20 +13,20 @@ use Rattle.queue.proofs.push.admission_of.Statement.{statement}
 use Rattle.queue.proofs.push.admission_of.Tie as tie
 
 -- what has to have been found before each answer
-full-is-refused : (nul : Bool) (d : Verdict) (full : Bool) → nul ≡ false → d ≡ verdict.Passes → full ≡ true → admitBy nul (verdictOutcome d) full ≡ refused 7
-full-is-refused nul d full no-nul inside is-full = rw (no-nul, inside, is-full) refl
+full-is-refused : (nul : Bool) (v : Verdict) (full : Bool) → nul ≡ false → v ≡ verdict.Passes → full ≡ true → admitBy nul (verdictOutcome v) full ≡ refused 7
+full-is-refused nul v full no-nul passes is-full = rw (no-nul, passes, is-full) refl
 
-room-is-used : (nul : Bool) (d : Verdict) (full : Bool) → nul ≡ false → d ≡ verdict.Passes → full ≡ false → admitBy nul (verdictOutcome d) full ≡ answer true
-room-is-used nul d full no-nul inside has-room = rw (no-nul, inside, has-room) refl
+room-is-used : (nul : Bool) (v : Verdict) (full : Bool) → nul ≡ false → v ≡ verdict.Passes → full ≡ false → admitBy nul (verdictOutcome v) full ≡ answer true
+room-is-used nul v full no-nul passes has-room = rw (no-nul, passes, has-room) refl
 
-unknown-is-refused : (nul : Bool) (d : Verdict) (full : Bool) → nul ≡ false → d ≡ verdict.UnknownByte → admitBy nul (verdictOutcome d) full ≡ refused 2
-unknown-is-refused nul d full no-nul outside = rw (no-nul, outside) refl
+unknown-is-refused : (nul : Bool) (v : Verdict) (full : Bool) → nul ≡ false → v ≡ verdict.UnknownByte → admitBy nul (verdictOutcome v) full ≡ refused 2
+unknown-is-refused nul v full no-nul fails = rw (no-nul, fails) refl
 
-row-is-refused : (nul : Bool) (d : Verdict) (full : Bool) → nul ≡ false → d ≡ verdict.NoSuchRow → admitBy nul (verdictOutcome d) full ≡ refused 3
-row-is-refused nul d full no-nul outside = rw (no-nul, outside) refl
+row-is-refused : (nul : Bool) (v : Verdict) (full : Bool) → nul ≡ false → v ≡ verdict.NoSuchRow → admitBy nul (verdictOutcome v) full ≡ refused 3
+row-is-refused nul v full no-nul fails = rw (no-nul, fails) refl
 
-command-is-refused : (nul : Bool) (d : Verdict) (full : Bool) → nul ≡ false → d ≡ verdict.NotACommand → admitBy nul (verdictOutcome d) full ≡ refused 18
-command-is-refused nul d full no-nul outside = rw (no-nul, outside) refl
+text-is-refused : (nul : Bool) (v : Verdict) (full : Bool) → nul ≡ false → v ≡ verdict.NotACommand → admitBy nul (verdictOutcome v) full ≡ refused 18
+text-is-refused nul v full no-nul fails = rw (no-nul, fails) refl
 
 returns : tie.Need-returns
 returns c = rw (c .if1 .taken) refl
@@ -44,7 +44,7 @@ returns-5 : tie.Need-returns-5
 returns-5 c = search row-is-refused
 
 returns-6 : tie.Need-returns-6
-returns-6 c = search command-is-refused
+returns-6 c = search text-is-refused
 
 enum-told : tie.Need-enum-told
 enum-told c = search needs
