@@ -63,7 +63,7 @@ pub what-is-sent : (sentBy programme freshSender ≡ line) × (queuePairs progra
 unfolding ones onesIn writeCode inDomain queueable admit pairOf pop pushRing popRing ring.wellFormed wellFormed pushSender send sendSender idleSender
 what-is-sent = (refl, refl, refl)
 
--- what each pair was packed of
+-- the codes of each pair
 pub what-it-is-made-of : packed programme freshSender ≡ record { pair = rollUp2; codes = command RollUp2 ∷ [] } ∷ record { pair = carriageReturn; codes = command CarriageReturn ∷ [] } ∷ record { pair = hi; codes = code.Letter (letterAt 0x28) ∷ code.Letter (letterAt 0x49) ∷ [] } ∷ []
 unfolding ones onesIn writeCode inDomain queueable admit pairOf pop pushRing popRing ring.wellFormed wellFormed pushSender send sendSender
 what-it-is-made-of = refl

@@ -1,6 +1,6 @@
 -- What is queued as a command is sent as a command, twice: T-04, over whole runs. `QueuedCommandsLaw` at the end is the
 -- law; `queued-commands` in proofs/QueuedCommands.antt proves it.
-use mathlib.Core.Bool.{Bool, cond, _||_}
+use mathlib.Core.Bool.{cond}
 use mathlib.Core.List.{List, [], _∷_, _++_}
 use mathlib.Core.Option.{Option, none, some}
 use mathlib.Core.Path.{_≡_}
@@ -11,7 +11,7 @@ use Rattle.code.specs.declared.pair.Pair.{Pair}
 use Rattle.queue.specs.Calls.{letIn, takenBy}
 use Rattle.queue.specs.Queue.{inside}
 use Rattle.queue.specs.Ring.{popRing}
-use Rattle.queue.specs.Sent.{MadeOf, halfCommandFirst, hasTwoByteCode}
+use Rattle.queue.specs.Sent.{MadeOf, makesCommand}
 use Rattle.queue.specs.declared.ring.Queue.{Queue}
 use Rattle.sender.specs.Sender.{freshSender, owedIn, pushSender, view}
 use Rattle.sender.specs.Sending.{stillOwed}
@@ -56,23 +56,19 @@ abbrev pub codesIn : List Packed → List Code
 codesIn [] = []
 codesIn (m ∷ ms) = m .codes ++ codesIn ms
 
--- a command by its codes: a two-byte code is among them or, which is the one exception, half a command is the first
-abbrev pub packsCommand : List Code → Bool
-packsCommand codes = hasTwoByteCode codes || halfCommandFirst codes
-
 -- a pair that is made of its codes, and is a command pair exactly where they make it one
 pub record WellPacked (m : Packed) : Type 0 where
   pub is-made-of : MadeOf (m .pair) (m .codes)
-  pub command : isCommandPair (m .pair) ≡ packsCommand (m .codes)
+  pub command : isCommandPair (m .pair) ≡ makesCommand (m .codes)
 
 abbrev pub AllWellPacked : List Packed → Type 0
 AllWellPacked [] = Unit
 AllWellPacked (m ∷ ms) = WellPacked m × AllWellPacked ms
 
--- a command by its codes is sent twice in a row, any other pair once
+-- a pair whose codes make a command is sent twice in a row, any other once
 abbrev pub sentByCodes : List Packed → List Pair
 sentByCodes [] = []
-sentByCodes (m ∷ ms) = cond (packsCommand (m .codes)) (m .pair ∷ m .pair ∷ sentByCodes ms) (m .pair ∷ sentByCodes ms)
+sentByCodes (m ∷ ms) = cond (makesCommand (m .codes)) (m .pair ∷ m .pair ∷ sentByCodes ms) (m .pair ∷ sentByCodes ms)
 
 -- of any run, whatever is still inside and whatever is still owed aside: these are the queue's pairs, each accepted code
 -- is in one of them, in order, each is well packed, and they are sent by their codes

@@ -3,7 +3,7 @@
 -- half a command first; a count is at most 65, a pop of a queue that is not empty makes progress, and twice as many pops
 -- as there are codes empty it.
 -- Assumes nothing.
-use mathlib.Core.Bool.{Bool, true, false, cond, _||_}
+use mathlib.Core.Bool.{Bool, true, false, cond}
 use mathlib.Core.List.{[]}
 use mathlib.Core.Path.{_≡_, refl, ap, sym, subst, _∙_}
 use Prim.Native.Nat.{ℕ, zero, suc, _*_, _≤_, _<_}
@@ -24,7 +24,7 @@ use Rattle.queue.specs.Good.{Good}
 use Rattle.queue.specs.Progress.{popTimes, work}
 use Rattle.queue.specs.Queue.{Queued, count, pop}
 use Rattle.queue.specs.Ring.{countRing, popRing, view, wellFormed}
-use Rattle.queue.specs.Sent.{halfCommandFirst, hasTwoByteCode, readsCommand}
+use Rattle.queue.specs.Sent.{makesCommand, readsCommand}
 use Rattle.queue.specs.declared.ring.Queue.{Queue}
 
 -- an answer that is no refusal came from a well-formed state, and is the definition's
@@ -50,12 +50,12 @@ sent-pair-is-read-as-a-command q p answered =
     (popped-command (view q) (good-fits q (known .0)))
 
 -- T-04: it is one exactly where the pop took a two-byte code, or half a command first
-pub sent-pair-is-a-command : (q : Queue) (p : Pair) → popRing q .0 ≡ answer p → isCommandPair p ≡ (hasTwoByteCode (takenBy q) || halfCommandFirst (takenBy q))
+pub sent-pair-is-a-command : (q : Queue) (p : Pair) → popRing q .0 ≡ answer p → isCommandPair p ≡ makesCommand (takenBy q)
 sent-pair-is-a-command q p answered =
     let known = pop-answer q p (wellFormed q) refl answered in
     ap isCommandPair (known .1)
     ∙ popped-is-a-command (view q) (good-fits q (known .0))
-    ∙ sym (ap (λ (t : Bool). hasTwoByteCode (cond t (pop (view q) .took) []) || halfCommandFirst (cond t (pop (view q) .took) [])) (known .0))
+    ∙ sym (ap (λ (t : Bool). makesCommand (cond t (pop (view q) .took) [])) (known .0))
 
 count-answer : (q : Queue) (n : ℕ) (t : Bool) → wellFormed q ≡ t → countRing q .0 ≡ answer n → n ≤ 65
 unfolding countRing

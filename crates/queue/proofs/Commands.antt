@@ -1,6 +1,5 @@
 -- The law of T-04: a pair that the queue gives is a command pair exactly where it was made of a two-byte code, which then
--- went out alone and as it is written. Half a command that goes first is the one exception. The cases at the end show
--- where 18 begins and ends, and the exception.
+-- went out alone and as it is written. Half a command that goes first is the one exception, and a case shows it.
 -- Assumes nothing.
 use mathlib.Core.Bool.{Bool, true, false, cond, not, _||_, true≢false}
 use mathlib.Core.List.{List, [], _∷_, _++_}
@@ -10,18 +9,16 @@ use Prim.Native.Nat.{ℕ}
 use borrow.Author.Tests.{eqb-true, not-false}
 use lib.Count.{ones, onesIn}
 use lib.Dec.{eqb}
-use lib.ListN.{replicate}
 use Rattle.code.proofs.Both.{both-left, both-right}
 use Rattle.code.proofs.CommandCodes.{written-says-command}
 use Rattle.code.proofs.Lengths.{not-one-is-two}
 use Rattle.code.proofs.Written.{domain-is-written, settled}
-use Rattle.code.specs.Channel.{channelOne, channelTwo}
-use Rattle.code.specs.Code.{byteLen, needsBackspace}
+use Rattle.code.specs.Channel.{channelOne}
+use Rattle.code.specs.Code.{byteLen}
 use Rattle.code.specs.Letter.{letterAt}
 use Rattle.code.specs.Outcome.{Outcome, answer, refused}
 use Rattle.code.specs.Read.{isCommandPair, readPair}
 use Rattle.code.specs.Write.{inDomain, isCommandCode, isCommandControl, pair, writeCode}
-use Rattle.code.specs.declared.channel.Channel.{Channel}
 use Rattle.code.specs.declared.code.Code.{Code}
 use Rattle.code.specs.declared.code.Code.the-variants as code
 use Rattle.code.specs.declared.color.Color.the-variants.{White}
@@ -31,14 +28,14 @@ use Rattle.code.specs.declared.pair.Pair.{Pair}
 use Rattle.code.specs.declared.preamble.PreambleType.the-variants as style
 use Rattle.queue.proofs.Order.{pop-takes-from-the-front}
 use Rattle.queue.proofs.Pairs.{code-goes-out-as-written, popped-command}
-use Rattle.queue.proofs.Dressed.{dressed-or-command, queueable-is-in-domain, queueable-is-not-dressed}
-use Rattle.queue.proofs.Sends.{held-is-no-single, pop-sends-what-it-took}
+use Rattle.queue.proofs.Dressed.{dressed-exactly, queueable-is-in-domain, queueable-is-not-dressed}
+use Rattle.queue.proofs.Sends.{Shaped, singles, two-bytes, pop-is-shaped, pop-sends-what-it-took}
 use Rattle.queue.specs.Calls.{Reply, listReplies, popping, pushing, toPop, toPush}
 use Rattle.queue.specs.Good.{Fit}
-use Rattle.queue.specs.Queue.{Pop, Queued, admit, byteOf, empty, inside, isNul, isSingle, mayWait, pairOf, pop, popCommand, popHeld, popSingle, popTwo, popWaiting, queued, sent}
+use Rattle.queue.specs.Queue.{Queued, admit, byteOf, empty, inside, isNul, isSingle, mayWait, pairOf, pop, queued, sent}
 use Rattle.queue.specs.Queueable.{isAnswer, isQueueable, queueable}
 use Rattle.queue.specs.Ring.{allMayWait}
-use Rattle.queue.specs.Sent.{MadeOf, of-singles, of-two-bytes, halfCommandFirst, hasTwoByteCode, isHalfCommand, pairFor, readsCommand}
+use Rattle.queue.specs.Sent.{MadeOf, of-singles, of-two-bytes, hasTwoByteCode, isHalfCommand, makesCommand, pairFor, readsCommand}
 
 -- a code that may be queued goes out with a first byte of 10 to 1F exactly where it is one that is sent as a command
 says : (c : Code) (o : Outcome (Pair × ℕ)) → writeCode c ≡ o → isAnswer (settled o) ≡ true → isCommandPair (sent o) ≡ isCommandCode c
@@ -54,11 +51,11 @@ sent-as-command : (c : Code) → isQueueable c ≡ true → isCommandCode c ≡ 
 sent-as-command code.Nul e = refl
 sent-as-command (code.Control c) e =
     not-false (isCommandControl (c .control))
-    (sym (dressed-or-command (c .control)) ∙ queueable-is-not-dressed (code.Control c) e)
+    (sym (dressed-exactly (code.Control c)) ∙ queueable-is-not-dressed (code.Control c) e)
 sent-as-command (code.Letter l) e = refl
 sent-as-command (code.Unknown b) e = refl
 
-pub code-is-a-command : (c : Code) → isQueueable c ≡ true → isCommandPair (pairOf c) ≡ (not (isSingle c) || isHalfCommand c)
+code-is-a-command : (c : Code) → isQueueable c ≡ true → isCommandPair (pairOf c) ≡ (not (isSingle c) || isHalfCommand c)
 code-is-a-command c e = code-says c e ∙ sent-as-command c e
 
 -- the first code of a list, if there is one, may be queued; and whether it makes a command pair
@@ -97,48 +94,16 @@ pair-says (x ∷ []) none first = alone-first (isSingle x) x ∙ code-is-a-comma
 pair-says (x ∷ []) (some c) first = code-is-a-command x first
 pair-says (x ∷ y ∷ rest) h first = code-is-a-command x first
 
--- by the shape of a pop: it takes single codes alone, or one two-byte code, and sends that
-data Shaped (p : Pair) : List Code → Type 0 where
-  singles : {l : List Code} → hasTwoByteCode l ≡ false → Shaped p l
-  two-bytes : (c : Code) → isSingle c ≡ false → p ≡ pairOf c → Shaped p (c ∷ [])
-
-abbrev IsShaped : Pop → Type 0
-IsShaped p = Shaped (p .pair) (p .took)
-
-command-shaped : (x : Code) (rest : List Code) (t : Bool) → needsBackspace x ≡ t → isSingle x ≡ false → IsShaped (popCommand x rest)
-command-shaped x rest true e two = rw e (singles refl)
-command-shaped x rest false e two = rw e (two-bytes x two refl)
-
-two-shaped : (x y : Code) (rest : List Code) (t : Bool) → isSingle y ≡ t → isSingle x ≡ true → IsShaped (popTwo x y rest)
-two-shaped x y rest true e single = rw e (singles {l = x ∷ y ∷ []} (rw (single, e) refl))
-two-shaped x y rest false e single = rw e (singles {l = x ∷ []} (rw single refl))
-
-single-shaped : (x : Code) (rest : List Code) → isSingle x ≡ true → IsShaped (popSingle x rest)
-single-shaped x [] single = singles {l = x ∷ []} (rw single refl)
-single-shaped x (y ∷ rest) single = two-shaped x y rest (isSingle y) refl single
-
-waiting-shaped : (x : Code) (rest : List Code) (t : Bool) → isSingle x ≡ t → IsShaped (popWaiting (x ∷ rest))
-waiting-shaped x rest true e = rw e (single-shaped x rest e)
-waiting-shaped x rest false e = rw e (command-shaped x rest (needsBackspace x) refl e)
-
-held-shaped : (h : Option Code) (l : List Code) → Fit (queued l h) → IsShaped (popHeld h l)
-held-shaped (some c) l f = two-bytes c (held-is-no-single c (f .held)) refl
-held-shaped none [] f = singles refl
-held-shaped none (x ∷ rest) f = waiting-shaped x rest (isSingle x) refl
-
-shaped : (v : Queued) → Fit v → Shaped (pop v .pair) (pop v .took)
-unfolding pop
-shaped v f = held-shaped (v .held) (v .waiting) f
-
-made-by : {p : Pair} {l : List Code} (h : Option Code) → Shaped p l → p ≡ pairFor l h → FirstQueueable l → MadeOf p l
-made-by h (singles e) told first = of-singles h e told
-made-by {p} h (two-bytes c two same) told first =
+-- what a pair is made of, by the shape of a pop
+made-by : {p : Pair} {h : Option Code} {l : List Code} → Shaped p h l → FirstQueueable l → MadeOf p l
+made-by {h} (singles e same) first = of-singles h e same
+made-by {p} (two-bytes c two same) first =
     of-two-bytes c
     (code-goes-out-as-written c first
     ∙ ap₂ {C = Outcome (Pair × ℕ)} (λ (x : Pair) (n : ℕ). answer (x, n)) (sym same) (eqb-true (byteLen c) 2 (not-one-is-two c two)))
 
 pub made-of : (v : Queued) → Fit v → MadeOf (pop v .pair) (pop v .took)
-made-of v f = made-by (pop v .next .held) (shaped v f) (pop-sends-what-it-took v f) (taken-queueable v f)
+made-of v f = made-by (pop-is-shaped v f) (taken-queueable v f)
 
 -- so the first code tells whether there is a two-byte code
 first-tells : (t u h : Bool) → (t || u) ≡ false → (t || h) ≡ ((t || u) || h)
@@ -149,19 +114,19 @@ one-tells : (t h : Bool) → (t || h) ≡ ((t || false) || h)
 one-tells true h = refl
 one-tells false h = refl
 
-by-all : {p : Pair} {l : List Code} → Shaped p l → firstIsACommand l ≡ (hasTwoByteCode l || halfCommandFirst l)
-by-all (singles {l = []} e) = refl
-by-all (singles {l = x ∷ l} e) = first-tells (not (isSingle x)) (hasTwoByteCode l) (isHalfCommand x) e
+by-all : {p : Pair} {h : Option Code} {l : List Code} → Shaped p h l → firstIsACommand l ≡ makesCommand l
+by-all (singles {l = []} e same) = refl
+by-all (singles {l = x ∷ l} e same) = first-tells (not (isSingle x)) (hasTwoByteCode l) (isHalfCommand x) e
 by-all (two-bytes c two same) = one-tells (not (isSingle c)) (isHalfCommand c)
 
-pub popped-is-a-command : (v : Queued) → Fit v → isCommandPair (pop v .pair) ≡ (hasTwoByteCode (pop v .took) || halfCommandFirst (pop v .took))
+pub popped-is-a-command : (v : Queued) → Fit v → isCommandPair (pop v .pair) ≡ makesCommand (pop v .took)
 popped-is-a-command v f =
     ap isCommandPair (pop-sends-what-it-took v f)
     ∙ pair-says (pop v .took) (pop v .next .held) (taken-queueable v f)
-    ∙ by-all (shaped v f)
+    ∙ by-all (pop-is-shaped v f)
 
 -- and it is read as a command there, and nowhere else
-pub popped-is-read : (v : Queued) → Fit v → readsCommand (readPair (pop v .pair .0) (pop v .pair .1)) ≡ (hasTwoByteCode (pop v .took) || halfCommandFirst (pop v .took))
+pub popped-is-read : (v : Queued) → Fit v → readsCommand (readPair (pop v .pair .0) (pop v .pair .1)) ≡ makesCommand (pop v .took)
 popped-is-read v f = popped-command v f ∙ popped-is-a-command v f
 
 abbrev accepted : Reply
@@ -183,37 +148,3 @@ pub half-a-command-makes-a-command :
     × (readPair 0x94 0xC1 ≡ answer (row-13-underlined, code.Nul))
 unfolding ones onesIn writeCode inDomain queueable admit pairOf pop readPair
 half-a-command-makes-a-command = (refl, refl)
-
--- the two-byte `Unknown` of a channel
-abbrev unknown : Channel → ℕ → ℕ → Code
-unknown ch a b = code.Control (record { field = Absent; channel = ch; control = control.Unknown a b })
-
--- 41 42 would go out as the letters A and B: it is refused 18, and nothing goes out
-pub text-is-refused : listReplies (pushing (unknown channelOne 0x41 0x42) ∷ popping ∷ []) empty ≡ toPush (refused 18) ∷ toPop (answer (pair 0x80 0x80)) ∷ []
-unfolding ones onesIn writeCode inDomain queueable admit pairOf pop
-text-is-refused = refl
-
--- on either channel 0F and 20 are refused, and 10 and 1F accepted
-abbrev alone : Channel → ℕ → List Reply
-alone ch a = listReplies (pushing (unknown ch a 0x41) ∷ popping ∷ []) empty
-
-abbrev refused-18 : List Reply
-refused-18 = toPush (refused 18) ∷ toPop (answer (pair 0x80 0x80)) ∷ []
-
-pub first-bytes-refused : (alone channelOne 0x0F ≡ refused-18) × (alone channelOne 0x20 ≡ refused-18) × (alone channelTwo 0x0F ≡ refused-18) × (alone channelTwo 0x20 ≡ refused-18)
-unfolding inDomain queueable admit pop
-first-bytes-refused = (refl, refl, refl, refl)
-
-abbrev goes-out : ℕ → List Reply
-goes-out a = accepted ∷ toPop (answer (pair a 0xC1)) ∷ []
-
-pub first-bytes-accepted : (alone channelOne 0x10 ≡ goes-out 0x10) × (alone channelOne 0x1F ≡ goes-out 0x1F) × (alone channelTwo 0x10 ≡ goes-out 0x98) × (alone channelTwo 0x1F ≡ goes-out 0x1F)
-unfolding ones onesIn writeCode inDomain queueable admit pairOf pop
-first-bytes-accepted = (refl, refl, refl, refl)
-
--- 2 comes before 18, and 18 before 7
-pub between-2-and-7 :
-    (listReplies (pushing (unknown channelOne 0x41 0x80) ∷ []) empty ≡ toPush (refused 2) ∷ [])
-    × (listReplies (replicate 64 (pushing letter-A) ++ (pushing (unknown channelOne 0x41 0x42) ∷ pushing letter-A ∷ [])) empty ≡ replicate 64 accepted ++ (toPush (refused 18) ∷ toPush (refused 7) ∷ []))
-unfolding inDomain queueable admit
-between-2-and-7 = (refl, refl)

@@ -1,23 +1,30 @@
 -- What may be queued can be written, and is no text dressed as a command. What that is, that a push of it is refused 18,
--- and that no well-formed queue has it inside.
+-- that no well-formed queue has it inside, and cases of 18.
 -- Assumes nothing.
 use mathlib.Core.Bool.{Bool, true, false, _&&_, not, true≢false}
 use mathlib.Core.List.{List, [], _∷_, _++_}
 use mathlib.Core.Option.{Option, none, some}
 use mathlib.Core.Path.{_≡_, refl, ap, sym, _∙_}
 use Prim.Native.Nat.{ℕ}
+use lib.Count.{ones, onesIn}
 use lib.Dec.{eqb}
+use lib.ListN.{replicate}
 use Rattle.code.proofs.Both.{both-left, both-right}
+use Rattle.code.specs.Channel.{channelOne, channelTwo}
 use Rattle.code.specs.Code.{byteLen}
+use Rattle.code.specs.Letter.{letterAt}
 use Rattle.code.specs.Outcome.{Outcome, answer, refused}
-use Rattle.code.specs.Write.{inDomain, isCommandCode, isCommandControl}
+use Rattle.code.specs.Write.{inDomain, isCommandCode, isCommandControl, pair, writeCode}
+use Rattle.code.specs.declared.channel.Channel.{Channel}
 use Rattle.code.specs.declared.code.Code.{Code}
 use Rattle.code.specs.declared.code.Code.the-variants as code
+use Rattle.code.specs.declared.control.CodeField.the-variants.{Absent}
 use Rattle.code.specs.declared.control.Control.{Control}
 use Rattle.code.specs.declared.control.Control.the-variants as control
 use Rattle.queue.proofs.WellFormed.{formed}
-use Rattle.queue.specs.Queue.{admit, heldCodes, inside, isNul, mayWait}
-use Rattle.queue.specs.Queueable.{isAnswer, isDressed, isDressedControl, isQueueable, queueable, unlessDressed}
+use Rattle.queue.specs.Calls.{Reply, listReplies, popping, pushing, toPop, toPush}
+use Rattle.queue.specs.Queue.{admit, empty, heldCodes, inside, isNul, mayWait, pairOf, pop}
+use Rattle.queue.specs.Queueable.{isAnswer, isDressed, isDressedControl, isQueueable, noneDressed, queueable, unlessDressed}
 use Rattle.queue.specs.Ring.{allMayWait, heldFits, heldIn, pushRing, view, waitingIn, wellFormed}
 use Rattle.queue.specs.declared.ring.Queue.{Queue}
 
@@ -56,7 +63,7 @@ unfolding queueable
 others-as-written c e = ap (λ (t : Bool). unlessDressed t (inDomain c)) e ∙ undressed (inDomain c)
 
 -- such text is a two-byte code that is not sent as a command, and nothing else is
-pub dressed-or-command : (c : Control) → isDressedControl c ≡ not (isCommandControl c)
+dressed-or-command : (c : Control) → isDressedControl c ≡ not (isCommandControl c)
 dressed-or-command (control.MidRow m) = refl
 dressed-or-command (control.Symbol s) = refl
 dressed-or-command (control.Command k) = refl
@@ -82,10 +89,6 @@ unfolding pushRing admit
 push-of-text q c formed dressed can = rw (formed, not-nul c dressed, dressed-is-refused c dressed can) refl
 
 -- and no well-formed queue has it inside
-abbrev noneDressed : List Code → Bool
-noneDressed [] = true
-noneDressed (c ∷ cs) = not (isDressed c) && noneDressed cs
-
 one-undressed : (c : Code) (cs : List Code) → isQueueable c ≡ true → noneDressed cs ≡ true → noneDressed (c ∷ cs) ≡ true
 one-undressed c cs may rest = rw (queueable-is-not-dressed c may) rest
 
@@ -102,3 +105,44 @@ inside-undressed (some c) l fits all =
 
 pub no-text-inside : (q : Queue) → wellFormed q ≡ true → noneDressed (inside (view q)) ≡ true
 no-text-inside q e = let f = formed q e in inside-undressed (heldIn (q .held)) (waitingIn q) (f .held) (f .codes)
+
+-- cases of 18, computed on the list
+abbrev accepted : Reply
+accepted = toPush (answer tt)
+
+abbrev letter-A : Code
+letter-A = code.Letter (letterAt 0x21)
+
+-- the two-byte `Unknown` of a channel
+abbrev unknown : Channel → ℕ → ℕ → Code
+unknown ch a b = code.Control (record { field = Absent; channel = ch; control = control.Unknown a b })
+
+-- 41 42 would go out as the letters A and B: it is refused 18, and nothing goes out
+pub text-is-refused : listReplies (pushing (unknown channelOne 0x41 0x42) ∷ popping ∷ []) empty ≡ toPush (refused 18) ∷ toPop (answer (pair 0x80 0x80)) ∷ []
+unfolding ones onesIn writeCode inDomain queueable admit pairOf pop
+text-is-refused = refl
+
+-- on either channel 0F and 20 are refused, and 10 and 1F accepted
+abbrev alone : Channel → ℕ → List Reply
+alone ch a = listReplies (pushing (unknown ch a 0x41) ∷ popping ∷ []) empty
+
+abbrev refused-18 : List Reply
+refused-18 = toPush (refused 18) ∷ toPop (answer (pair 0x80 0x80)) ∷ []
+
+pub first-bytes-refused : (alone channelOne 0x0F ≡ refused-18) × (alone channelOne 0x20 ≡ refused-18) × (alone channelTwo 0x0F ≡ refused-18) × (alone channelTwo 0x20 ≡ refused-18)
+unfolding inDomain queueable admit pop
+first-bytes-refused = (refl, refl, refl, refl)
+
+abbrev goes-out : ℕ → List Reply
+goes-out a = accepted ∷ toPop (answer (pair a 0xC1)) ∷ []
+
+pub first-bytes-accepted : (alone channelOne 0x10 ≡ goes-out 0x10) × (alone channelOne 0x1F ≡ goes-out 0x1F) × (alone channelTwo 0x10 ≡ goes-out 0x98) × (alone channelTwo 0x1F ≡ goes-out 0x1F)
+unfolding ones onesIn writeCode inDomain queueable admit pairOf pop
+first-bytes-accepted = (refl, refl, refl, refl)
+
+-- 2 comes before 18, and 18 before 7
+pub between-2-and-7 :
+    (listReplies (pushing (unknown channelOne 0x41 0x80) ∷ []) empty ≡ toPush (refused 2) ∷ [])
+    × (listReplies (replicate 64 (pushing letter-A) ++ (pushing (unknown channelOne 0x41 0x42) ∷ pushing letter-A ∷ [])) empty ≡ replicate 64 accepted ++ (toPush (refused 18) ∷ toPush (refused 7) ∷ []))
+unfolding inDomain queueable admit
+between-2-and-7 = (refl, refl)

@@ -5,38 +5,31 @@ use mathlib.Core.Path.{_≡_, refl, ap, sym, subst, _∙_}
 use Prim.Native.Nat.{ℕ, _<_}
 use native.Mathlib.Omega.{arith}
 use borrow.Author.Tests.{leb-true}
-use lib.Dec.{leb, lit<}
+use lib.Dec.{eqb, leb, lit<}
 use Rattle.code.proofs.Both.{both-left, both-right}
 use Rattle.code.proofs.CommandCodes.{written-says-command}
 use Rattle.code.proofs.Lengths.{text-has-one-byte}
 use Rattle.code.proofs.OneAnswer.{same}
 use Rattle.code.proofs.RoundTrip.{command-again, single-again}
 use Rattle.code.proofs.Written.{data-kept, domain-is-written, even-is-refused, odd-is-read, settled}
-use Rattle.code.specs.Code.{byteLen}
 use Rattle.code.specs.Outcome.{Outcome, answer, refused}
 use Rattle.code.specs.Parity.{isOdd, stripped, withParity}
 use Rattle.code.specs.Read.{codesOf, commandOf, isCommand, readPair, single}
-use Rattle.code.specs.Write.{pair, writeCode}
+use Rattle.code.specs.Write.{isCommandCode, pair, writeCode}
 use Rattle.code.specs.declared.code.Code.{Code}
 use Rattle.code.specs.declared.code.Code.the-variants as code
 use Rattle.code.specs.declared.pair.Pair.{Pair}
-use Rattle.queue.proofs.Dressed.{dressed-or-command, others-as-written}
+use Rattle.queue.proofs.Dressed.{dressed-exactly, others-as-written}
 use Rattle.queue.specs.Queueable.{isDressed, queueable}
 
 written-may : (c : Code) (p : Pair) (n : ℕ) → writeCode c ≡ answer (p, n) → isDressed c ≡ false → queueable c ≡ answer tt
 written-may c p n written e = others-as-written c e ∙ domain-is-written c ∙ ap settled written
 
 -- a single code has one byte
-one-byte-is-not-dressed : (c : Code) → byteLen c ≡ 1 → isDressed c ≡ false
-one-byte-is-not-dressed code.Nul e = refl
-one-byte-is-not-dressed (code.Control c) e = absurd (omega arith)
-one-byte-is-not-dressed (code.Letter l) e = refl
-one-byte-is-not-dressed (code.Unknown b) e = refl
-
 single-may : (b : ℕ) → b < 128 → queueable (single b) ≡ answer tt
 single-may b less =
     written-may (single b) (pair (withParity b) 0x80) 1 (single-again b less)
-    (one-byte-is-not-dressed (single b) (text-has-one-byte b))
+    (dressed-exactly (single b) ∙ ap (λ (n : ℕ). eqb n 2 && not (isCommandCode (single b))) (text-has-one-byte b))
 
 -- a command was read from a first byte of 10 to 1F
 command-may : (a b : ℕ) → isCommand a ≡ true → b < 128 → queueable (code.Control (commandOf a b)) ≡ answer tt
@@ -47,7 +40,7 @@ command-may a b e less =
     let kept : stripped (withParity a) ≡ a = data-kept a ∙ omega arith in
     let is-command = sym (written-says-command _ _ _ written) ∙ ap isCommand kept ∙ e in
     written-may (code.Control (commandOf a b)) (pair (withParity a) (withParity b)) 2 written
-    (dressed-or-command (commandOf a b .control) ∙ ap not is-command)
+    (dressed-exactly (code.Control (commandOf a b)) ∙ ap not is-command)
 
 abbrev BothMay : Code × Code → Type 0
 BothMay r = (queueable (r .0) ≡ answer tt) × (queueable (r .1) ≡ answer tt)

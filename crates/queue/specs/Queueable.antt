@@ -1,6 +1,7 @@
 -- What may be queued: a code that can be written, 01's refusals 2 and 3, and that is no text dressed as a command, T-04's
 -- refusal 18. Pushing, waiting, being held, and so 12, all rest on it.
-use mathlib.Core.Bool.{Bool, true, false, cond, not}
+use mathlib.Core.Bool.{Bool, true, false, cond, _&&_, not}
+use mathlib.Core.List.{List, [], _∷_}
 use Rattle.code.specs.Outcome.{Outcome, answer, refused}
 use Rattle.code.specs.Read.{isCommand}
 use Rattle.code.specs.Write.{inDomain}
@@ -24,6 +25,10 @@ isDressed code.Nul = false
 isDressed (code.Control c) = isDressedControl (c .control)
 isDressed (code.Letter l) = false
 isDressed (code.Unknown b) = false
+
+abbrev pub noneDressed : List Code → Bool
+noneDressed [] = true
+noneDressed (c ∷ cs) = not (isDressed c) && noneDressed cs
 
 abbrev pub unlessDressed : Bool → Outcome Unit → Outcome Unit
 unlessDressed dressed (answer u) = cond dressed (refused 18) (answer tt)

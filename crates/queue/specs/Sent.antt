@@ -45,6 +45,10 @@ abbrev pub halfCommandFirst : List Code → Bool
 halfCommandFirst [] = false
 halfCommandFirst (c ∷ cs) = isHalfCommand c
 
+-- which codes make a command pair: a two-byte code is among them or, which is the one exception, half a command is first
+abbrev pub makesCommand : List Code → Bool
+makesCommand codes = hasTwoByteCode codes || halfCommandFirst codes
+
 -- what a pair is made of: single codes alone, or none, as they stand before the command that is then held, if any; or
 -- one two-byte code, as it is written
 pub data MadeOf (p : Pair) : List Code → Type 0 where

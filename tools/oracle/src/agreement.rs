@@ -6,11 +6,11 @@
 
 use crate::any_code::any_code;
 use crate::names::{COMMANDS, LETTERS};
-use crate::queue::{self, plain};
+use crate::queue::{self, is_command, plain};
 use crate::random::{Random, SEED};
 use crate::receiver::{heard, Heard, Receiver, HI, PADDING};
 use crate::rounds::Beside;
-use crate::sender::{is_command, is_odd, Asked};
+use crate::sender::{is_odd, Asked};
 use crate::transcript::Transcript;
 use cea608_types::tables::{Channel, Code, Field};
 use cea608_types::{Cea608, Cea608State, Mode, Text};

@@ -7,7 +7,6 @@
 use crate::code::{control, written};
 use crate::names::LETTERS;
 use crate::rounds::Beside;
-use crate::sender::is_command;
 use crate::transcript::Transcript;
 use crate::values::code_bytes;
 use cea608_types::tables::{Channel, Code, Control, ControlCode};
@@ -65,7 +64,7 @@ enum Made {
     OfAnotherOfTwoBytes,
 }
 
-const KINDS: usize = 5;
+const KINDS: usize = Made::OfAnotherOfTwoBytes as usize + 1;
 
 fn kind_of(taken: &[Code]) -> Made {
     match taken.first() {
@@ -97,8 +96,13 @@ fn is_dressed(code: Code) -> bool {
     }
 }
 
-pub fn is_first_of_command(byte: u8) -> bool {
+fn is_first_of_command(byte: u8) -> bool {
     (0x10..=0x1F).contains(&byte)
+}
+
+/// Whether a pair is sent twice.
+pub fn is_command(pair: [u8; 2]) -> bool {
+    is_first_of_command(pair[0] & 0x7F)
 }
 
 /// The crate's writer, with a push refused where 01 and T-04 refuse it.

@@ -3,7 +3,7 @@
 //! popped, and is owed again where its first byte, stripped, is 0x10 to 0x1F. Refusal 11 is due where
 //! a drain starts past the end of its output, and 12 as for the queue.
 
-use crate::queue::{self, count_answer, is_first_of_command, Writer, ILL_FORMED};
+use crate::queue::{self, count_answer, is_command, Writer, ILL_FORMED};
 use crate::rounds::Beside;
 use crate::transcript::Transcript;
 use crate::values::code_bytes;
@@ -17,11 +17,6 @@ const BYTES: [u8; 14] = [
 ];
 
 pub const LONGEST_OUTPUT: usize = BYTES.len();
-
-/// Whether a pair is sent twice.
-pub fn is_command(pair: [u8; 2]) -> bool {
-    is_first_of_command(pair[0] & 0x7F)
-}
 
 pub fn is_odd(pair: [u8; 2]) -> bool {
     pair.iter().all(|byte| byte.count_ones() % 2 == 1)

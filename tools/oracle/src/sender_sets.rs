@@ -3,11 +3,11 @@
 
 use crate::code::with_parity;
 use crate::names::{COMMANDS, LETTERS, SYMBOLS};
-use crate::queue::{plain, PLACES};
+use crate::queue::{is_command, plain, PLACES};
 use crate::queue_sets::{self, every_break, of_good_codes, short_sequences};
 use crate::random::{Random, SEED};
 use crate::rounds::{rounds, stretch, Beside, Steps};
-use crate::sender::{is_command, is_odd, Asked, Drain, Model, Pieces, LONGEST_OUTPUT};
+use crate::sender::{is_odd, Asked, Drain, Model, Pieces, LONGEST_OUTPUT};
 use crate::transcript::Transcript;
 use cea608_types::tables::Code;
 
