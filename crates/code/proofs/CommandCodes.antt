@@ -9,7 +9,7 @@ use borrow.Author.Tests.{eqb-true, leb-true, ltb-true}
 use lib.Dec.{eqb, leb, lit<, ltb}
 use Rattle.code.proofs.Agree.{agree}
 use Rattle.code.proofs.Both.{both-left, both-right}
-use Rattle.code.proofs.Bytes.{prefixAt, preamble-plus, symbol-plus}
+use Rattle.code.proofs.Bytes.{preamble-plus, symbol-plus}
 use Rattle.code.proofs.Numbers.{column-back, letter-small, style-back}
 use Rattle.code.proofs.Written.{data-kept}
 use Rattle.code.specs.Column.{columnNumber}
@@ -19,6 +19,7 @@ use Rattle.code.specs.Outcome.{Outcome, answer, refused}
 use Rattle.code.specs.Parity.{stripped, withParity}
 use Rattle.code.specs.Preamble.{styleOf}
 use Rattle.code.specs.Read.{isCommand, within}
+use Rattle.code.specs.Tables.{prefixAt}
 use Rattle.code.specs.Write.{asCommand, asSingle, bit, controlBytes, isCommandCode, isCommandControl, isFieldTwo, midRowBytes, onLine, pair, preambleBytes, symbolBase, symbolBytes, withBit8, withChannel, withField, writeCode}
 use Rattle.code.specs.declared.channel.Channel.{Channel}
 use Rattle.code.specs.declared.code.Code.{Code}
@@ -80,7 +81,7 @@ bit-small false = lit< tt
 preamble-says : (p : PreambleAddressCode) → p .row < 15 → isCommand (preambleBytes p .0) ≡ true
 preamble-says p less =
     let n = 2 * styleOf (p .ty) + bit (p .underline) in
-    ap (λ (q : Pair). isCommand (q .0)) (sym (preamble-plus (p .row) n less (omega (arith, style-back (p .ty) .0, bit-small (p .underline)))))
+    ap (λ (q : Pair). isCommand (q .0)) (sym (preamble-plus (p .row) n (omega (arith, style-back (p .ty) .0, bit-small (p .underline)))))
     ∙ prefix-says (p .row) less
 
 -- a first byte of 10 to 1F is still one when sent

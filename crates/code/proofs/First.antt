@@ -12,7 +12,7 @@ use lib.Dec.{eqb}
 use lib.ListN.{length, getD}
 use Rattle.code.specs.Position.{position, later}
 use Rattle.code.specs.Tables.{foundAt}
-use Rattle.code.specs.declared.tables.Found.the-variants.{At, Nothing}
+use Rattle.code.specs.declared.tables.Found.the-variants.{At, Absent}
 
 -- entry i has x, and none before it has
 pub first-at : (f : ℕ → ℕ) (x : ℕ) (t : List ℕ) (i : ℕ) → i < length t → f (getD t i 0) ≡ x → ((k : ℕ) → k < i → f (getD t k 0) ≡ x → ⊥) → position x (map f t) ≡ some i
@@ -47,6 +47,6 @@ pub found-some : (o : Option ℕ) (i : ℕ) → foundAt o ≡ At i → o ≡ som
 found-some none i e = let z : _≡_ {A = ℕ} 0 1 = cc in absurd (omega arith)
 found-some (some j) i e = cc
 
-pub found-none : (o : Option ℕ) → foundAt o ≡ Nothing → o ≡ none
+pub found-none : (o : Option ℕ) → foundAt o ≡ Absent → o ≡ none
 found-none none e = refl
 found-none (some j) e = let z : _≡_ {A = ℕ} 0 1 = cc in absurd (omega arith)

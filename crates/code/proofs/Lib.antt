@@ -5,10 +5,12 @@ pub mod CommandCodes
 pub mod First
 pub mod Increasing
 pub mod Keys
+pub mod KindByKind
 pub mod Lengths
 pub mod LentPart
 pub mod Lookup
 pub mod Meaning
+pub mod MeantBack
 pub mod Numbers
 pub mod OneAnswer
 pub mod RoundTrip

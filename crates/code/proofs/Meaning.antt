@@ -72,15 +72,15 @@ pub without-field-between : (p b : ℕ) → 16 ≤ p → p < 24 → (16 ≤ with
 without-field-between p b from below = between (within 0x20 0x2F b && eqb p 0x15) p from below
 
 -- a control code put together from its parts
-abbrev pub said : ℕ → ℕ → Meaning → Control
-said a b (meant.Of c) = c
-said a b meant.Nothing = control.Unknown a b
+abbrev pub meantOr : ℕ → ℕ → Meaning → Control
+meantOr a b (meant.Of c) = c
+meantOr a b meant.Absent = control.Unknown a b
 
-said-is : (a b : ℕ) (o : Option Control) → said a b (meaningOf o) ≡ orUnknown a b o
+said-is : (a b : ℕ) (o : Option Control) → meantOr a b (meaningOf o) ≡ orUnknown a b o
 said-is a b none = refl
 said-is a b (some c) = refl
 
-pub parsed : (a b p : ℕ) (ch : Channel) (f : CodeField) (r : Meaning) → 16 ≤ a → a < 32 → ch ≡ channelOf a → f ≡ fieldOf (a % 8 + 16) b → p ≡ withoutField (a % 8 + 16) b → r ≡ meaningOf (meaning p b) → _≡_ {A = ControlCode} (record { field = f; channel = ch; control = said a b r }) (commandOf a b)
+pub parsed : (a b p : ℕ) (ch : Channel) (f : CodeField) (r : Meaning) → 16 ≤ a → a < 32 → ch ≡ channelOf a → f ≡ fieldOf (a % 8 + 16) b → p ≡ withoutField (a % 8 + 16) b → r ≡ meaningOf (meaning p b) → _≡_ {A = ControlCode} (record { field = f; channel = ch; control = meantOr a b r }) (commandOf a b)
 parsed a b p ch f r from below of-channel field prefix found =
     simp (found, prefix, field, of-channel, said-is, without-channel a from below)
 

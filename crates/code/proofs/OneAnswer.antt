@@ -12,7 +12,7 @@ use Rattle.code.specs.MidRow.{maybeColorOutcome}
 use Rattle.code.specs.Outcome.{answer, refused}
 use Rattle.code.specs.Preamble.{fromIndent, fromIndentOutcome, maybeIndentOutcome, newPreamble, newPreambleOutcome}
 use Rattle.code.specs.Read.{fromDataOutcome, readPair}
-use Rattle.code.specs.Write.{domainOutcome, inDomain, writeCode, writtenOutcome}
+use Rattle.code.specs.Write.{domainOutcome, inDomain, rowBytesOutcome, writeCode, writtenOutcome}
 use Rattle.code.specs.declared.channel.Channel.{Channel}
 use Rattle.code.specs.declared.character.Character.{Character}
 use Rattle.code.specs.declared.character.Character.the-variants as character
@@ -33,6 +33,8 @@ use Rattle.code.specs.declared.read.FromData.{FromData}
 use Rattle.code.specs.declared.read.FromData.the-variants as from-data
 use Rattle.code.specs.declared.write.Domain.{Domain}
 use Rattle.code.specs.declared.write.Domain.the-variants as domain
+use Rattle.code.specs.declared.write.RowBytes.{RowBytes}
+use Rattle.code.specs.declared.write.RowBytes.the-variants as row-bytes
 use Rattle.code.specs.declared.write.Written.{Written}
 use Rattle.code.specs.declared.write.Written.the-variants as written
 
@@ -148,3 +150,9 @@ from-indent-once n = answer-is-unique fromIndentOutcome from-indent-injective (f
 
 pub new-preamble-once : (row : ℕ) (u : Bool) (t : PreambleType) (r s : NewPreamble) → newPreambleOutcome r ≡ newPreamble row u t → newPreambleOutcome s ≡ newPreamble row u t → r ≡ s
 new-preamble-once row u t = answer-is-unique newPreambleOutcome new-preamble-injective (newPreamble row u t)
+
+pub row-bytes-injective : Injective rowBytesOutcome
+row-bytes-injective (row-bytes.Are p) (row-bytes.Are q) e = ap row-bytes.Are (same e)
+row-bytes-injective (row-bytes.Are p) row-bytes.NoSuchRow e = absurd (clash e)
+row-bytes-injective row-bytes.NoSuchRow (row-bytes.Are q) e = absurd (clash (sym e))
+row-bytes-injective row-bytes.NoSuchRow row-bytes.NoSuchRow e = refl

@@ -25,7 +25,7 @@ use Rattle.code.specs.declared.control.Control.the-variants as control
 use Rattle.code.specs.declared.pair.Pair.{Pair}
 
 -- a byte that may be sent
-pub record Sent (b : ℕ) : Type 0 where
+pub record SentByte (b : ℕ) : Type 0 where
   pub odd : isOdd b ≡ true
   pub small : b < 256
 
@@ -38,18 +38,18 @@ either-small true s less = omega arith
 either-small false s less = omega arith
 
 -- parity added to any byte makes it odd
-pub with-parity : (b : ℕ) → Sent (withParity b)
+pub with-parity : (b : ℕ) → SentByte (withParity b)
 with-parity b =
     let less : stripped b < 128 = omega arith in
     record { odd = parity-of-seven (stripped b) less; small = either-small (isOdd (stripped b)) (stripped b) less }
 
-pub nul-sent : Sent 0x80
+pub nul-sent : SentByte 0x80
 unfolding ones onesIn
 nul-sent = record { odd = refl; small = lit< tt }
 
 pub record SentPair (p : Pair) : Type 0 where
-  pub first : Sent (p .0)
-  pub second : Sent (p .1)
+  pub first : SentByte (p .0)
+  pub second : SentByte (p .1)
 
 -- of an outcome: if it is an answer, the pair is fit to be sent and the length is n
 abbrev pub Good : ℕ → Outcome (Pair × ℕ) → Type 0

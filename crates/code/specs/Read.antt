@@ -112,6 +112,10 @@ isOddPair p = isOdd (p .0) && isOdd (p .1)
 abbrev pub isCommandPair : Pair → Bool
 isCommandPair p = isCommand (stripped (p .0))
 
+-- both bytes are the same
+abbrev pub samePair : Pair → Pair → Bool
+samePair p q = eqb (p .0) (q .0) && eqb (p .1) (q .1)
+
 -- the codes of a received pair; 1: a byte with an even count of ones
 unfoldable pub readPair : ℕ → ℕ → Outcome (Code × Code)
 readPair a b = cond (isOdd a && isOdd b) (answer (codesOf (stripped a) (stripped b))) (refused 1)

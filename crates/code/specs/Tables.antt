@@ -7,19 +7,21 @@ use mathlib.Core.List.{List, [], _∷_, _++_}
 use mathlib.Core.Option.{Option, none, some}
 use lib.Dec.{eqb, ltb}
 use lib.ListN.{getD, replicate}
-use Rattle.code.specs.Characters.{standard, special, spanish, french, portuguese, german}
+use Rattle.code.specs.Characters.{standard, standardPoints, special, spanish, french, portuguese, german}
 use Rattle.code.specs.Control.{commandAt, tabAt}
 use Rattle.code.specs.Letter.{letterAt}
-use Rattle.code.specs.Read.{within}
+use Rattle.code.specs.Read.{rowPrefixes, within}
 use Rattle.code.specs.Symbol.{symbolAt}
+use Rattle.code.specs.Write.{twoBytes}
 use Rattle.code.specs.declared.code.Code.{Code}
 use Rattle.code.specs.declared.code.Code.the-variants as code
 use Rattle.code.specs.declared.control.Control.{Control}
 use Rattle.code.specs.declared.control.Control.the-variants as control
+use Rattle.code.specs.declared.pair.Pair.{Pair}
 use Rattle.code.specs.declared.read.Meaning.{Meaning}
 use Rattle.code.specs.declared.read.Meaning.the-variants as meant
 use Rattle.code.specs.declared.tables.Found.{Found}
-use Rattle.code.specs.declared.tables.Found.the-variants.{At, Nothing}
+use Rattle.code.specs.declared.tables.Found.the-variants.{At, Absent}
 
 -- the byte of a character, or the two bytes of a control code
 abbrev pub bytesOf : ℕ → ℕ
@@ -47,6 +49,10 @@ controlEntries =
     entries 0x1130 special ++ entries 0x1220 spanish ++ entries 0x1230 french ++ entries 0x1320 portuguese
     ++ entries 0x1330 german ++ entries 0x1420 (replicate 16 0) ++ entries 0x1721 (replicate 3 0)
 
+-- the code points of the standard characters, then of the symbols
+abbrev pub allPoints : List ℕ
+allPoints = standardPoints ++ (special ++ (spanish ++ (french ++ (portuguese ++ german))))
+
 abbrev pub codeAt : ℕ → Code
 codeAt i = cond (eqb i 0) code.Nul (code.Letter (letterAt (i - 1)))
 
@@ -56,7 +62,7 @@ controlAt i =
     (cond (ltb i 96) (control.Command (commandAt (i - 80))) (control.Tab (tabAt (i - 96))))
 
 abbrev pub foundAt : Option ℕ → Found
-foundAt none = Nothing
+foundAt none = Absent
 foundAt (some i) = At i
 
 -- the row of 40 to 5F after each of the first bytes 10 to 17
@@ -64,9 +70,13 @@ abbrev pub firstRowAt : ℕ → ℕ
 firstRowAt n = getD (10 ∷ 0 ∷ 2 ∷ 11 ∷ 13 ∷ 4 ∷ 6 ∷ 8 ∷ []) n 0
 
 abbrev pub meaningOf : Option Control → Meaning
-meaningOf none = meant.Nothing
+meaningOf none = meant.Absent
 meaningOf (some c) = meant.Of c
 
 -- the tab of a second byte after 17
 abbrev pub tabIn : ℕ → Option Control
 tabIn b = cond (within 0x21 0x23 b) (some (control.Tab (tabAt (b - 0x21)))) none
+
+-- the bytes of a row's white preamble; a row above 14 has none
+abbrev pub prefixAt : ℕ → Pair
+prefixAt row = twoBytes (getD rowPrefixes row 0)

@@ -30,6 +30,8 @@ use Rattle.code.specs.declared.write.Bytes.{Bytes}
 use Rattle.code.specs.declared.write.Bytes.the-variants as bytes
 use Rattle.code.specs.declared.write.Domain.{Domain}
 use Rattle.code.specs.declared.write.Domain.the-variants as domain
+use Rattle.code.specs.declared.write.RowBytes.{RowBytes}
+use Rattle.code.specs.declared.write.RowBytes.the-variants as row-bytes
 use Rattle.code.specs.declared.write.Written.{Written}
 use Rattle.code.specs.declared.write.Written.the-variants.{Made, UnknownByte, NoSuchRow}
 
@@ -61,13 +63,17 @@ symbolBytes s = twoBytes (getD symbolBases (symbolRowNumber (s .row)) 0 + column
 abbrev pub preambleBytes : PreambleAddressCode → Pair
 preambleBytes p = twoBytes (getD rowPrefixes (p .row) 0 + (2 * styleOf (p .ty) + bit (p .underline)))
 
--- the two bytes of a control, channel, field and parity aside; 3: a row above 14; 2: a byte of 0x80 or more
+-- 3: a row above 14
+abbrev pub rowBytes : PreambleAddressCode → Outcome Pair
+rowBytes p = cond (leb (p .row) 14) (answer (preambleBytes p)) (refused 3)
+
+-- the two bytes of a control, channel, field and parity aside; 2: a byte of 0x80 or more
 abbrev pub controlBytes : Control → Outcome Pair
 controlBytes (control.MidRow m) = answer (midRowBytes m)
 controlBytes (control.Symbol s) = answer (symbolBytes s)
 controlBytes (control.Command c) = answer (pair 0x14 (0x20 + commandNumber c))
 controlBytes (control.Tab t) = answer (pair 0x17 (0x20 + tabNumber t))
-controlBytes (control.Preamble p) = cond (leb (p .row) 14) (answer (preambleBytes p)) (refused 3)
+controlBytes (control.Preamble p) = rowBytes p
 controlBytes (control.Unknown a b) = cond (ltb a 0x80 && ltb b 0x80) (answer (pair a b)) (refused 2)
 
 -- field two turns 14 before 20 to 2F into 15
@@ -147,6 +153,10 @@ abbrev pub bytesOutcome : Bytes → Outcome Pair
 bytesOutcome (bytes.Are p) = answer p
 bytesOutcome bytes.UnknownByte = refused 2
 bytesOutcome bytes.NoSuchRow = refused 3
+
+abbrev pub rowBytesOutcome : RowBytes → Outcome Pair
+rowBytesOutcome (row-bytes.Are p) = answer p
+rowBytesOutcome row-bytes.NoSuchRow = refused 3
 
 -- which codes are sent as commands: every control code but `Unknown`, and `Unknown`, of one byte or two, where its own
 -- first byte is 10 to 1F

@@ -1,7 +1,6 @@
 // The character of a code, and the code of a character.
 ghost use mathlib.Core.Path.{_≡_};
-ghost use Prim.Native.Nat.{_-_, _≤_, _<_};
-ghost use lib.ListN.{getD};
+ghost use Prim.Native.Nat.{_<_};
 ghost use Rattle.code.specs.Position.{position};
 ghost use Rattle.code.specs.Tables.{codeAt, controlAt, entryPoint};
 ghost use Rattle.code.specs.Code.{charOf, controlChar, characterOutcome, fromChar, fromCharOutcome, symbolCode};
@@ -21,6 +20,7 @@ use crate::tables::Found;
 use crate::tables::code_table;
 use crate::tables::control_table;
 use crate::tables::find_point;
+use crate::tables::point_at;
 
 // The code point of a code, where it has one.
 pub enum Character {
@@ -53,29 +53,7 @@ impl Letter {
     pub(crate) fn char(self) -> Character
         ensures { λ r. ⌜ characterOutcome r ≡ pointIn standard (letterPlace self) ⌝ }
     {
-        Character::Point(standard_point(self.place() + 0x20))
-    }
-}
-
-// The code point of a standard character's byte: ASCII's, but for eleven. The table has it too, but would be copied to
-// the stack for each lookup.
-pub(crate) fn standard_point(byte: u8) -> u32
-    requires { ⌜ (32 ≤ byte) × (byte < 128) ⌝ }
-    ensures { λ r. ⌜ r ≡ getD standard (byte - 32) 0 ⌝ }
-{
-    match byte {
-        0x27 => 0x2019, // ’
-        0x2A => 0x00E1, // á
-        0x5C => 0x00E9, // é
-        0x5E => 0x00ED, // í
-        0x5F => 0x00F3, // ó
-        0x60 => 0x00FA, // ú
-        0x7B => 0x00E7, // ç
-        0x7C => 0x00F7, // ÷
-        0x7D => 0x00D1, // Ñ
-        0x7E => 0x00F1, // ñ
-        0x7F => 0x2588, // █
-        _ => byte as u32,
+        Character::Point(point_at(self.place()))
     }
 }
 
@@ -84,9 +62,7 @@ impl Symbol {
     pub(crate) fn char(self) -> Character
         ensures { λ r. ⌜ characterOutcome r ≡ pointIn symbols (symbolPlace self) ⌝ }
     {
-        let table = control_table();
-        let entry = self.place() as usize;
-        Character::from_entry(table[entry])
+        Character::from_entry(point_at(96 + self.place()))
     }
 }
 
@@ -116,7 +92,7 @@ impl Code {
         let table = code_table();
         match find_point(&table, c) {
             Found::At(entry) => FromChar::Made(Code::at(entry)),
-            Found::Nothing => Code::symbol_from_char(c, channel),
+            Found::Absent => Code::symbol_from_char(c, channel),
         }
     }
 
@@ -132,7 +108,7 @@ impl Code {
                 channel: channel,
                 control: Control::at(entry),
             })),
-            Found::Nothing => FromChar::NoSuchCharacter,
+            Found::Absent => FromChar::NoSuchCharacter,
         }
     }
 

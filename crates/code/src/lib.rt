@@ -45,4 +45,5 @@ pub use read::FromData;
 pub use symbol::Symbol;
 pub use symbol::SymbolRow;
 pub use write::Domain;
+pub use write::RowBytes;
 pub use write::Written;

@@ -32,11 +32,12 @@ pub enum FromData {
 // What a control code means, if anything.
 pub(crate) enum Meaning {
     Of(Control),
-    Nothing,
+    Absent,
 }
 
 impl Code {
-    // The codes of a pair: a command and NUL, or two single codes.
+    // The codes of a pair: a command and NUL, or two single codes. Of a command 10 to 17 is channel one, 18 to 1F two; with
+    // a call for each, the compiler leaves the parsing out of the code for text.
     pub fn from_data(pair: Pair) -> FromData
         ensures { λ r. ⌜ fromDataOutcome r ≡ readPair (pair .0) (pair .1) ⌝ }
     {
@@ -51,7 +52,12 @@ impl Code {
         let first = strip_parity(received0);
         let second = strip_parity(received1);
         if first / 16 == 1 {
-            FromData::Codes(Code::Control(ControlCode::parse(first, second)), Code::Nul)
+            let code = if first < 0x18 {
+                ControlCode::parse(Channel::ONE, first, second)
+            } else {
+                ControlCode::parse(Channel::TWO, first, second)
+            };
+            FromData::Codes(Code::Control(code), Code::Nul)
         } else {
             FromData::Codes(Code::from_byte(first), Code::from_byte(second))
         }
@@ -73,34 +79,22 @@ impl Code {
 }
 
 impl ControlCode {
-    // The control code of two stripped bytes.
-    pub(crate) fn parse(first: u8, second: u8) -> ControlCode
-        requires { ⌜ (16 ≤ first) × (first < 32) × (second < 128) ⌝ }
+    // The control code of two stripped bytes, for the channel that the first names.
+    pub(crate) fn parse(channel: Channel, first: u8, second: u8) -> ControlCode
+        requires { ⌜ (16 ≤ first) × (first < 32) × (second < 128) × (channel ≡ channelOf first) ⌝ }
         ensures { λ r. ⌜ r ≡ commandOf first second ⌝ }
     {
-        let channel = channel_of(first);
         let prefix = first % 8 + 0x10;
         let field = field_of(prefix, second);
         let control = match Control::parse(without_field(prefix, second), second) {
             Meaning::Of(control) => control,
-            Meaning::Nothing => Control::Unknown(first, second),
+            Meaning::Absent => Control::Unknown(first, second),
         };
         ControlCode {
             field: field,
             channel: channel,
             control: control,
         }
-    }
-}
-
-// The channel of a first byte: 10 to 17 is one, 18 to 1F two.
-pub(crate) fn channel_of(first: u8) -> Channel
-    ensures { λ r. ⌜ r ≡ channelOf first ⌝ }
-{
-    if first < 0x18 {
-        Channel::ONE
-    } else {
-        Channel::TWO
     }
 }
 
@@ -144,27 +138,27 @@ impl Control {
             0x11 => match second / 16 {
                 2 => Meaning::Of(Control::MidRow(MidRow::at(second % 16 / 2, second % 2 == 1))),
                 3 => Control::parse_symbol(SymbolRow::Special, second),
-                _ => Meaning::Nothing,
+                _ => Meaning::Absent,
             },
             0x12 => match second / 16 {
                 2 => Control::parse_symbol(SymbolRow::Spanish, second),
                 3 => Control::parse_symbol(SymbolRow::French, second),
-                _ => Meaning::Nothing,
+                _ => Meaning::Absent,
             },
             0x13 => match second / 16 {
                 2 => Control::parse_symbol(SymbolRow::Portuguese, second),
                 3 => Control::parse_symbol(SymbolRow::German, second),
-                _ => Meaning::Nothing,
+                _ => Meaning::Absent,
             },
             0x14 => match second / 16 {
                 2 => Meaning::Of(Control::Command(Command::at(second % 16))),
-                _ => Meaning::Nothing,
+                _ => Meaning::Absent,
             },
             0x17 => match second / 16 {
                 2 => Control::parse_tab(second),
-                _ => Meaning::Nothing,
+                _ => Meaning::Absent,
             },
-            _ => Meaning::Nothing,
+            _ => Meaning::Absent,
         }
     }
 
@@ -184,12 +178,12 @@ impl Control {
         ensures { λ r. ⌜ r ≡ meaningOf (tabIn second) ⌝ }
     {
         if second < 0x21 {
-            return Meaning::Nothing;
+            return Meaning::Absent;
         }
         if second <= 0x23 {
             Meaning::Of(Control::Tab(Tab::at(second - 0x21)))
         } else {
-            Meaning::Nothing
+            Meaning::Absent
         }
     }
 
@@ -209,7 +203,7 @@ impl Control {
             }));
         }
         if prefix == 0x10 {
-            return Meaning::Nothing;
+            return Meaning::Absent;
         }
         Meaning::Of(Control::Preamble(PreambleAddressCode {
             row: row + 1,

@@ -3,7 +3,9 @@
 ghost use mathlib.Core.List.{map};
 ghost use mathlib.Core.Path.{_≡_};
 ghost use Rattle.code.specs.Position.{position};
-ghost use Rattle.code.specs.Tables.{codeEntries, controlEntries, pointOf, foundAt};
+ghost use Prim.Native.Nat.{_<_};
+ghost use lib.ListN.{getD};
+ghost use Rattle.code.specs.Tables.{allPoints, codeEntries, controlEntries, pointOf, foundAt, prefixAt};
 use crate::pair::Pair;
 
 // The pair of each row's white preamble, in row order 0 to 14: the style and the underline are added to the second byte.
@@ -246,7 +248,7 @@ pub(crate) fn control_table() -> [u32; 99]
 // Where a search found what it looked for.
 pub(crate) enum Found {
     At(usize),
-    Nothing,
+    Absent,
 }
 
 // The first entry that has this code point.
@@ -260,5 +262,202 @@ pub(crate) fn find_point(table: &[u32], point: u32) -> Found
         }
         i += 1;
     }
-    Found::Nothing
+    Found::Absent
+}
+
+// The prefix of a row. A row above 14 has none.
+pub(crate) fn row_prefix(row: u8) -> Pair
+    ensures { λ r. ⌜ r ≡ prefixAt row ⌝ }
+{
+    if 15 <= row {
+        return Pair(0, 0);
+    }
+    let table = ROW_PREFIXES;
+    table[row as usize]
+}
+
+// The code point at a place: the standard characters, then the symbols, 0 for the transparent space. Reading looks up two
+// a pair, and a `match` is one load, where a const array would be copied to the stack for each.
+pub(crate) fn point_at(place: u8) -> u32
+    requires { ⌜ place < 176 ⌝ }
+    ensures { λ r. ⌜ r ≡ getD allPoints place 0 ⌝ }
+{
+    match place {
+        0 => 0x0020, // space
+        1 => 0x0021, // !
+        2 => 0x0022, // "
+        3 => 0x0023, // #
+        4 => 0x0024, // $
+        5 => 0x0025, // %
+        6 => 0x0026, // &
+        7 => 0x2019, // ’
+        8 => 0x0028, // (
+        9 => 0x0029, // )
+        10 => 0x00E1, // á
+        11 => 0x002B, // +
+        12 => 0x002C, // ,
+        13 => 0x002D, // -
+        14 => 0x002E, // .
+        15 => 0x002F, // /
+        16 => 0x0030, // 0
+        17 => 0x0031, // 1
+        18 => 0x0032, // 2
+        19 => 0x0033, // 3
+        20 => 0x0034, // 4
+        21 => 0x0035, // 5
+        22 => 0x0036, // 6
+        23 => 0x0037, // 7
+        24 => 0x0038, // 8
+        25 => 0x0039, // 9
+        26 => 0x003A, // :
+        27 => 0x003B, // ;
+        28 => 0x003C, // <
+        29 => 0x003D, // =
+        30 => 0x003E, // >
+        31 => 0x003F, // ?
+        32 => 0x0040, // @
+        33 => 0x0041, // A
+        34 => 0x0042, // B
+        35 => 0x0043, // C
+        36 => 0x0044, // D
+        37 => 0x0045, // E
+        38 => 0x0046, // F
+        39 => 0x0047, // G
+        40 => 0x0048, // H
+        41 => 0x0049, // I
+        42 => 0x004A, // J
+        43 => 0x004B, // K
+        44 => 0x004C, // L
+        45 => 0x004D, // M
+        46 => 0x004E, // N
+        47 => 0x004F, // O
+        48 => 0x0050, // P
+        49 => 0x0051, // Q
+        50 => 0x0052, // R
+        51 => 0x0053, // S
+        52 => 0x0054, // T
+        53 => 0x0055, // U
+        54 => 0x0056, // V
+        55 => 0x0057, // W
+        56 => 0x0058, // X
+        57 => 0x0059, // Y
+        58 => 0x005A, // Z
+        59 => 0x005B, // [
+        60 => 0x00E9, // é
+        61 => 0x005D, // ]
+        62 => 0x00ED, // í
+        63 => 0x00F3, // ó
+        64 => 0x00FA, // ú
+        65 => 0x0061, // a
+        66 => 0x0062, // b
+        67 => 0x0063, // c
+        68 => 0x0064, // d
+        69 => 0x0065, // e
+        70 => 0x0066, // f
+        71 => 0x0067, // g
+        72 => 0x0068, // h
+        73 => 0x0069, // i
+        74 => 0x006A, // j
+        75 => 0x006B, // k
+        76 => 0x006C, // l
+        77 => 0x006D, // m
+        78 => 0x006E, // n
+        79 => 0x006F, // o
+        80 => 0x0070, // p
+        81 => 0x0071, // q
+        82 => 0x0072, // r
+        83 => 0x0073, // s
+        84 => 0x0074, // t
+        85 => 0x0075, // u
+        86 => 0x0076, // v
+        87 => 0x0077, // w
+        88 => 0x0078, // x
+        89 => 0x0079, // y
+        90 => 0x007A, // z
+        91 => 0x00E7, // ç
+        92 => 0x00F7, // ÷
+        93 => 0x00D1, // Ñ
+        94 => 0x00F1, // ñ
+        95 => 0x2588, // █
+        96 => 0x00AE, // ®
+        97 => 0x00B0, // °
+        98 => 0x00BD, // ½
+        99 => 0x00BF, // ¿
+        100 => 0x2122, // ™
+        101 => 0x00A2, // ¢
+        102 => 0x00A3, // £
+        103 => 0x266A, // ♪
+        104 => 0x00E0, // à
+        105 => 0x0000, // transparent space
+        106 => 0x00E8, // è
+        107 => 0x00E2, // â
+        108 => 0x00EA, // ê
+        109 => 0x00EE, // î
+        110 => 0x00F4, // ô
+        111 => 0x00FB, // û
+        112 => 0x00C1, // Á
+        113 => 0x00C9, // É
+        114 => 0x00D3, // Ó
+        115 => 0x00DA, // Ú
+        116 => 0x00DC, // Ü
+        117 => 0x00FC, // ü
+        118 => 0x2018, // ‘
+        119 => 0x00A1, // ¡
+        120 => 0x002A, // *
+        121 => 0x0027, // '
+        122 => 0x2014, // —
+        123 => 0x00A9, // ©
+        124 => 0x2120, // ℠
+        125 => 0x2022, // •
+        126 => 0x201C, // “
+        127 => 0x201D, // ”
+        128 => 0x00C0, // À
+        129 => 0x00C2, // Â
+        130 => 0x00C7, // Ç
+        131 => 0x00C8, // È
+        132 => 0x00CA, // Ê
+        133 => 0x00CB, // Ë
+        134 => 0x00EB, // ë
+        135 => 0x00CE, // Î
+        136 => 0x00CF, // Ï
+        137 => 0x00EF, // ï
+        138 => 0x00D4, // Ô
+        139 => 0x00D9, // Ù
+        140 => 0x00F9, // ù
+        141 => 0x00DB, // Û
+        142 => 0x00AB, // «
+        143 => 0x00BB, // »
+        144 => 0x00C3, // Ã
+        145 => 0x00E3, // ã
+        146 => 0x00CD, // Í
+        147 => 0x00CC, // Ì
+        148 => 0x00EC, // ì
+        149 => 0x00D2, // Ò
+        150 => 0x00F2, // ò
+        151 => 0x00D5, // Õ
+        152 => 0x00F5, // õ
+        153 => 0x007B, // {
+        154 => 0x007D, // }
+        155 => 0x005C, // \
+        156 => 0x005E, // ^
+        157 => 0x005F, // _
+        158 => 0x007C, // |
+        159 => 0x007E, // ~
+        160 => 0x00C4, // Ä
+        161 => 0x00E4, // ä
+        162 => 0x00D6, // Ö
+        163 => 0x00F6, // ö
+        164 => 0x00DF, // ß
+        165 => 0x00A5, // ¥
+        166 => 0x00A4, // ¤
+        167 => 0x2502, // │
+        168 => 0x00C5, // Å
+        169 => 0x00E5, // å
+        170 => 0x00D8, // Ø
+        171 => 0x00F8, // ø
+        172 => 0x250C, // ┌
+        173 => 0x2510, // ┐
+        174 => 0x2514, // └
+        _ => 0x2518, // ┘
+    }
 }

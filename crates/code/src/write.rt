@@ -4,6 +4,7 @@ ghost use Prim.Native.Nat.{_<_};
 ghost use Rattle.code.specs.Write.{writeCode, writtenOutcome, asCommand, onLine, withField, withChannel};
 ghost use Rattle.code.specs.Write.{inDomain, controlInDomain, domainOutcome};
 ghost use Rattle.code.specs.Write.{controlBytes, bytesOutcome, midRowBytes, symbolBytes, symbolBase, preambleBytes};
+ghost use Rattle.code.specs.Write.{rowBytes, rowBytesOutcome};
 use crate::channel::Channel;
 use crate::code::Code;
 use crate::control::CodeField;
@@ -16,7 +17,7 @@ use crate::parity::add_parity;
 use crate::preamble::PreambleAddressCode;
 use crate::symbol::Symbol;
 use crate::symbol::SymbolRow;
-use crate::tables::ROW_PREFIXES;
+use crate::tables::row_prefix;
 
 // A written pair and how many of its bytes the code fills. `UnknownByte` is refusal 2, `NoSuchRow` refusal 3.
 pub enum Written {
@@ -29,6 +30,12 @@ pub enum Written {
 pub enum Domain {
     Inside,
     UnknownByte,
+    NoSuchRow,
+}
+
+// The two bytes of a preamble. `NoSuchRow` is refusal 3.
+pub enum RowBytes {
+    Are(Pair),
     NoSuchRow,
 }
 
@@ -130,7 +137,7 @@ impl ControlCode {
 }
 
 // Two bytes with their field, channel and parity.
-pub(crate) fn on_line(field: CodeField, channel: Channel, bytes: Pair) -> Pair
+pub fn on_line(field: CodeField, channel: Channel, bytes: Pair) -> Pair
     ensures { λ r. ⌜ r ≡ onLine field channel bytes ⌝ }
 {
     let first = with_channel(channel, with_field(field, bytes));
@@ -185,7 +192,7 @@ impl Control {
             Control::Preamble(preamble) => {
                 let row = preamble.row;
                 if row < 15 {
-                    Bytes::Are(preamble.bytes())
+                    Bytes::Are(preamble.bytes_in_row())
                 } else {
                     Bytes::NoSuchRow
                 }
@@ -205,7 +212,7 @@ impl Control {
 
 impl MidRow {
     // 11, then 20 and on: twice the number of the colour, and the underline.
-    pub(crate) fn bytes(self) -> Pair
+    pub fn bytes(self) -> Pair
         ensures { λ r. ⌜ r ≡ midRowBytes self ⌝ }
     {
         let number = self.number();
@@ -234,7 +241,7 @@ impl SymbolRow {
 
 impl Symbol {
     // The row's first bytes, and the column.
-    pub(crate) fn bytes(self) -> Pair
+    pub fn bytes(self) -> Pair
         ensures { λ r. ⌜ r ≡ symbolBytes self ⌝ }
     {
         let row = self.row;
@@ -245,14 +252,22 @@ impl Symbol {
 }
 
 impl PreambleAddressCode {
+    // The two bytes of a preamble, channel, field and parity aside.
+    pub fn bytes(self) -> RowBytes
+        ensures { λ r. ⌜ rowBytesOutcome r ≡ rowBytes self ⌝ }
+    {
+        let row = self.row;
+        if 15 <= row {
+            return RowBytes::NoSuchRow;
+        }
+        RowBytes::Are(self.bytes_in_row())
+    }
+
     // The row's prefix, and in the second byte twice the style and the underline.
-    pub(crate) fn bytes(self) -> Pair
-        requires { ⌜ self .row < 15 ⌝ }
+    pub(crate) fn bytes_in_row(self) -> Pair
         ensures { λ r. ⌜ r ≡ preambleBytes self ⌝ }
     {
-        let table = ROW_PREFIXES;
-        let row = self.row as usize;
-        let prefix = table[row];
+        let prefix = row_prefix(self.row);
         let ty = self.ty;
         let style = ty.style();
         if self.underline {

@@ -2,7 +2,7 @@
 -- Assumes nothing.
 use mathlib.Core.Option.{some}
 use mathlib.Core.Path.{_≡_, refl}
-use Rattle.event.specs.Id.{channelOf, fieldOf, idOf}
+use Rattle.event.specs.Id.{channelOfId, fieldOfId, idOf}
 use Rattle.event.specs.Mode.{commandOf, modeOf}
 use Rattle.event.specs.declared.id.Id.{Id}
 use Rattle.event.specs.declared.id.Id.the-variants.{CC1, CC2, CC3, CC4}
@@ -16,7 +16,7 @@ mode-back RollUp2 = refl
 mode-back RollUp3 = refl
 mode-back RollUp4 = refl
 
-pub id-back : (i : Id) → idOf (fieldOf i) (channelOf i) ≡ i
+pub id-back : (i : Id) → idOf (fieldOfId i) (channelOfId i) ≡ i
 id-back CC1 = refl
 id-back CC2 = refl
 id-back CC3 = refl

@@ -21,9 +21,9 @@ from-value-injective value.NoSuchId value.NoSuchId e = refl
 
 pub from-command-injective : Injective fromCommandOutcome
 from-command-injective (from.Begins m) (from.Begins n) e = cc
-from-command-injective (from.Begins m) from.Nothing e = let z : _≡_ {A = ℕ} 0 1 = cc in absurd (omega arith)
-from-command-injective from.Nothing (from.Begins n) e = let z : _≡_ {A = ℕ} 0 1 = cc in absurd (omega arith)
-from-command-injective from.Nothing from.Nothing e = refl
+from-command-injective (from.Begins m) from.Absent e = let z : _≡_ {A = ℕ} 0 1 = cc in absurd (omega arith)
+from-command-injective from.Absent (from.Begins n) e = let z : _≡_ {A = ℕ} 0 1 = cc in absurd (omega arith)
+from-command-injective from.Absent from.Absent e = refl
 
 pub rollup-rows-injective : Injective rollupRowsOutcome
 rollup-rows-injective (rows.Rows m) (rows.Rows n) e = cc

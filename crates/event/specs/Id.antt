@@ -18,17 +18,17 @@ use Rattle.event.specs.declared.id.Id.the-variants.{CC1, CC2, CC3, CC4}
 abbrev pub idOf : Field → Channel → Id
 idOf f ch = cond (f .0) (cond (ch .0) CC1 CC2) (cond (ch .0) CC3 CC4)
 
-abbrev pub fieldOf : Id → Field
-fieldOf CC1 = fieldOne
-fieldOf CC2 = fieldOne
-fieldOf CC3 = fieldTwo
-fieldOf CC4 = fieldTwo
+abbrev pub fieldOfId : Id → Field
+fieldOfId CC1 = fieldOne
+fieldOfId CC2 = fieldOne
+fieldOfId CC3 = fieldTwo
+fieldOfId CC4 = fieldTwo
 
-abbrev pub channelOf : Id → Channel
-channelOf CC1 = channelOne
-channelOf CC2 = channelTwo
-channelOf CC3 = channelOne
-channelOf CC4 = channelTwo
+abbrev pub channelOfId : Id → Channel
+channelOfId CC1 = channelOne
+channelOfId CC2 = channelTwo
+channelOfId CC3 = channelOne
+channelOfId CC4 = channelTwo
 
 -- 6: a value outside 1 to 4
 abbrev pub fromPlace : Option ℕ → Outcome Id

@@ -7,11 +7,11 @@ use mathlib.Core.Option.{Option, none, some}
 use Rattle.code.specs.declared.control.Command.{Command}
 use Rattle.code.specs.declared.control.Command.the-variants as command
 use Rattle.event.specs.declared.mode.FromCommand.{FromCommand}
-use Rattle.event.specs.declared.mode.FromCommand.the-variants.{Begins, Nothing}
+use Rattle.event.specs.declared.mode.FromCommand.the-variants as from
 use Rattle.event.specs.declared.mode.Mode.{Mode}
 use Rattle.event.specs.declared.mode.Mode.the-variants.{PopOn, PaintOn, RollUp2, RollUp3, RollUp4}
 use Rattle.event.specs.declared.mode.RollupRows.{RollupRows}
-use Rattle.event.specs.declared.mode.RollupRows.the-variants.{Rows, Absent}
+use Rattle.event.specs.declared.mode.RollupRows.the-variants as rows
 
 abbrev pub commandOf : Mode → Command
 commandOf PopOn = command.ResumeCaptionLoading
@@ -39,8 +39,8 @@ modeOf command.EraseNonDisplayedMemory = none
 modeOf command.EndOfCaption = none
 
 abbrev pub fromCommandOutcome : FromCommand → Option Mode
-fromCommandOutcome (Begins m) = some m
-fromCommandOutcome Nothing = none
+fromCommandOutcome (from.Begins m) = some m
+fromCommandOutcome from.Absent = none
 
 abbrev pub rollupRows : Mode → Option ℕ
 rollupRows PopOn = none
@@ -50,8 +50,8 @@ rollupRows RollUp3 = some 3
 rollupRows RollUp4 = some 4
 
 abbrev pub rollupRowsOutcome : RollupRows → Option ℕ
-rollupRowsOutcome (Rows n) = some n
-rollupRowsOutcome Absent = none
+rollupRowsOutcome (rows.Rows n) = some n
+rollupRowsOutcome rows.Absent = none
 
 -- a mode is a roll-up mode where it has rows
 abbrev pub hasRows : Option ℕ → Bool

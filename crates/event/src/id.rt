@@ -1,6 +1,6 @@
 // The four caption services: a field and a channel within it.
 ghost use mathlib.Core.Path.{_≡_};
-ghost use Rattle.event.specs.Id.{idOf, fieldOf, channelOf, fromValue, fromValueOutcome};
+ghost use Rattle.event.specs.Id.{idOf, fieldOfId, channelOfId, fromValue, fromValueOutcome};
 use code::Channel;
 use code::Field;
 
@@ -48,7 +48,7 @@ impl Id {
 
     // The field that carries the service.
     pub fn field(self) -> Field
-        ensures { λ r. ⌜ r ≡ fieldOf self ⌝ }
+        ensures { λ r. ⌜ r ≡ fieldOfId self ⌝ }
     {
         match self {
             Id::CC1 => Field::ONE,
@@ -60,7 +60,7 @@ impl Id {
 
     // The service's channel within its field.
     pub fn channel(self) -> Channel
-        ensures { λ r. ⌜ r ≡ channelOf self ⌝ }
+        ensures { λ r. ⌜ r ≡ channelOfId self ⌝ }
     {
         match self {
             Id::CC1 => Channel::ONE,

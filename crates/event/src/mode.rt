@@ -25,7 +25,7 @@ pub enum RollupRows {
 // The mode that a command begins, where it begins one.
 pub enum FromCommand {
     Begins(Mode),
-    Nothing,
+    Absent,
 }
 
 impl Mode {
@@ -35,21 +35,21 @@ impl Mode {
     {
         match command {
             Command::ResumeCaptionLoading => FromCommand::Begins(Mode::PopOn),
-            Command::Backspace => FromCommand::Nothing,
-            Command::AlarmOff => FromCommand::Nothing,
-            Command::AlarmOn => FromCommand::Nothing,
-            Command::DeleteToEndOfRow => FromCommand::Nothing,
+            Command::Backspace => FromCommand::Absent,
+            Command::AlarmOff => FromCommand::Absent,
+            Command::AlarmOn => FromCommand::Absent,
+            Command::DeleteToEndOfRow => FromCommand::Absent,
             Command::RollUp2 => FromCommand::Begins(Mode::RollUp2),
             Command::RollUp3 => FromCommand::Begins(Mode::RollUp3),
             Command::RollUp4 => FromCommand::Begins(Mode::RollUp4),
-            Command::FlashOn => FromCommand::Nothing,
+            Command::FlashOn => FromCommand::Absent,
             Command::ResumeDirectionCaptioning => FromCommand::Begins(Mode::PaintOn),
-            Command::TextRestart => FromCommand::Nothing,
-            Command::ResumeTextDisplay => FromCommand::Nothing,
-            Command::EraseDisplayedMemory => FromCommand::Nothing,
-            Command::CarriageReturn => FromCommand::Nothing,
-            Command::EraseNonDisplayedMemory => FromCommand::Nothing,
-            Command::EndOfCaption => FromCommand::Nothing,
+            Command::TextRestart => FromCommand::Absent,
+            Command::ResumeTextDisplay => FromCommand::Absent,
+            Command::EraseDisplayedMemory => FromCommand::Absent,
+            Command::CarriageReturn => FromCommand::Absent,
+            Command::EraseNonDisplayedMemory => FromCommand::Absent,
+            Command::EndOfCaption => FromCommand::Absent,
         }
     }
 

@@ -87,9 +87,9 @@ module _ (l : Listing) (on : l .ended ≡ false) (o : Open l) (quiet : pending (
   pair-says : (x a : ℕ) (rest : List ℕ) → l .pairs < mostPairs → listFrom (l .receiver) (l .pairs) (l .refused) (x ∷ a ∷ rest) ≡ saysYet (afterPair l (step (l .receiver) (pair x a))) rest
   pair-says x a rest less =
       let r = step (l .receiver) (pair x a) in
-      let said = lineOf (l .pairs) (r .0) in
+      let theLine = lineOf (l .pairs) (r .0) in
       let fits = pair-fits (l .receiver) (pair x a) (l .pairs) less in
-      let waits = all-said said emptyLine empty-begun (omega arith) (omega (arith, fits)) .waits in
+      let waits = all-said theLine emptyLine empty-begun (omega arith) (omega (arith, fits)) .waits in
       let below : leb mostPairs (l .pairs) ≡ false = lt-leb mostPairs (l .pairs) less in
       rw below
       (ap₂ (λ (xs : List ℕ) (q : ℕ). xs ++ listFrom (r .1) (l .pairs + 1) q rest) (sym waits) (sym (counts (r .0) (l .refused) (omega (arith, o .refused, less))))
@@ -130,9 +130,9 @@ few-refusals (refused n) = omega arith
 pair-open : (l : Listing) → Open l → (x a : ℕ) → l .pairs < mostPairs → Open (afterPair l (step (l .receiver) (pair x a)))
 pair-open l o x a less =
     let r = step (l .receiver) (pair x a) in
-    let said = lineOf (l .pairs) (r .0) in
+    let theLine = lineOf (l .pairs) (r .0) in
     let fits = pair-fits (l .receiver) (pair x a) (l .pairs) less in
-    let holds = all-said said emptyLine empty-begun (omega arith) (omega (arith, fits)) in
+    let holds = all-said theLine emptyLine empty-begun (omega arith) (omega (arith, fits)) in
     record {
       pairs = omega (arith, less);
       refused = omega (arith, counts (r .0) (l .refused) (omega (arith, o .refused, less)), few-refusals (r .0), o .refused);

@@ -53,7 +53,7 @@ eight-digits n less =
     let rest : List ℕ = 10000000 ∷ 1000000 ∷ 100000 ∷ 10000 ∷ 1000 ∷ 100 ∷ 10 ∷ [] in
     rw (lt-leb 1000000000 n (omega (arith, less))) (not-reached 100000000 rest n less)
 
-character-short : (c : Character) → length (characterWord c) ≤ 4
+pub character-short : (c : Character) → length (characterWord c) ≤ 4
 character-short character.Absent = omega arith
 character-short (character.Point p) = omega arith
 

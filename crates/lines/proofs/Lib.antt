@@ -1,5 +1,6 @@
 pub mod AnyCutting
 pub mod Bounds
+pub mod Digits
 pub mod Flushing
 pub mod Memory
 pub mod OneAnswer

@@ -42,6 +42,9 @@ digit s same e = is (e ∙ ap (putOne s) same)
 pub number : (s : Placed) {d n : ℕ} {next : Placed} → d ≡ n → next ≡ putAll s (decimal d) → Put s (decimal n) next
 number s same e = is (e ∙ ap (λ (k : ℕ). putAll s (decimal k)) same)
 
+pub same-word : (s : Placed) {ds bs : List ℕ} {next : Placed} → ds ≡ bs → next ≡ putAll s ds → Put s bs next
+same-word s same e = is (e ∙ ap (putAll s) same)
+
 -- the memory stays as long as it was
 pub puts-length : (bs : List ℕ) (s : Placed) → length (putAll s bs .1) ≡ length (s .1)
 puts-length [] s = refl
@@ -75,3 +78,8 @@ all-places bs at out fits =
     (sets-eq bs out at fits
     ∙ append-assoc (take at out) bs (drop (at + length bs) out)
     ∙ ap (λ (d : List ℕ). take at out ++ (bs ++ d)) (sym (drop-drop (length bs) at out)))
+
+-- the room that is left after bytes, of which there are at most k
+pub left : {s next : Placed} {bs : List ℕ} (k m : ℕ) → Put s bs next → length bs ≤ k → s .0 + (k + m) ≤ length (s .1) → next .0 + m ≤ length (next .1)
+left {s} {next} {bs} k m (is e) few room =
+    omega (arith, few, room, ap (λ (x : Placed). x .0) (e ∙ all-places bs (s .0) (s .1) (omega (arith, few, room))), ap (λ (x : Placed). length (x .1)) e ∙ puts-length bs s)

@@ -30,14 +30,14 @@ begun input l output =
     ∙ ap₂ {C = Read} (λ (n m : ℕ). (n, m, p .next, over (p .text) output)) taken written
 
 -- what a turn writes, and the listing and the output after it
-abbrev said : Listing → List ℕ → ℕ → List ℕ
-said l output written = writes (l .line) (length output - written)
+abbrev unwrittenText : Listing → List ℕ → ℕ → List ℕ
+unwrittenText l output written = writes (l .line) (length output - written)
 
 abbrev left : Listing → List ℕ → ℕ → Listing
 left l output written = withLine l (unwritten (l .line) (length output - written))
 
 abbrev filled : Listing → List ℕ → ℕ → List ℕ
-filled l output written = take written output ++ over (said l output written) (drop written output)
+filled l output written = take written output ++ over (unwrittenText l output written) (drop written output)
 
 -- text in two parts over an output
 in-two-parts : (front rest w t : List ℕ) → front ++ over (w ++ t) rest ≡ (front ++ w) ++ over t (drop (length w) rest)
@@ -95,27 +95,27 @@ byte-taken input taken l output written more empty on m next =
     ∙ ap {B = Read} (λ (n : ℕ). (n, written + length (p .text), p .next, take written output ++ over (p .text) (drop written output))) one)
 
 module _ (l : Listing) (output : List ℕ) (written : ℕ) (inside : written ≤ length output) where
-  short : length (said l output written) ≤ length (drop written output)
+  short : length (unwrittenText l output written) ≤ length (drop written output)
   short = omega (arith, fits (l .line) (length output - written), length-drop written output)
 
   filled-length : length (filled l output written) ≡ length output
   filled-length =
-      let w = said l output written in
+      let w = unwrittenText l output written in
       let rest : length (over w (drop written output)) ≡ length (drop written output) = length-front (drop written output) w (length w) (sym (length-take-le (length w) (drop written output) short)) in
       length-append (take written output) (over w (drop written output))
       ∙ omega (arith, rest, length-take-le written output inside, length-drop written output)
 
-  front-length : length (take written output ++ said l output written) ≡ written + length (said l output written)
+  front-length : length (take written output ++ unwrittenText l output written) ≡ written + length (unwrittenText l output written)
   front-length =
-      length-append (take written output) (said l output written)
-      ∙ ap (λ (n : ℕ). n + length (said l output written)) (length-take-le written output inside)
+      length-append (take written output) (unwrittenText l output written)
+      ∙ ap (λ (n : ℕ). n + length (unwrittenText l output written)) (length-take-le written output inside)
 
-  regrouped : filled l output written ≡ (take written output ++ said l output written) ++ drop (length (said l output written)) (drop written output)
-  regrouped = sym (append-assoc (take written output) (said l output written) (drop (length (said l output written)) (drop written output)))
+  regrouped : filled l output written ≡ (take written output ++ unwrittenText l output written) ++ drop (length (unwrittenText l output written)) (drop written output)
+  regrouped = sym (append-assoc (take written output) (unwrittenText l output written) (drop (length (unwrittenText l output written)) (drop written output)))
 
-  turned : (taken : ℕ) (p : Piece) → onceRead taken written output (prefixed (said l output written) p) ≡ onceRead taken (written + length (said l output written)) (filled l output written) p
+  turned : (taken : ℕ) (p : Piece) → onceRead taken written output (prefixed (unwrittenText l output written) p) ≡ onceRead taken (written + length (unwrittenText l output written)) (filled l output written) p
   turned taken p =
-      let w = said l output written in
+      let w = unwrittenText l output written in
       let n = written + length w in
       let more : written + length (w ++ p .text) ≡ n + length (p .text) = omega (arith, length-append w (p .text)) in
       let front : take n (filled l output written) ≡ take written output ++ w = ap (take n) regrouped ∙ take-at (take written output ++ w) (drop (length w) (drop written output)) n front-length in
@@ -126,29 +126,29 @@ module _ (l : Listing) (output : List ℕ) (written : ℕ) (inside : written ≤
       ∙ ap₂ (λ (a b : List ℕ). a ++ over (p .text) b) (sym front) (sym rest))
 
   -- all that waits is written, and the reading comes to the same
-  pub goes-on : (input : List ℕ) (taken : ℕ) → l .ended ≡ false → ltb (length output - written) (waiting (l .line)) ≡ false → comesTo input taken (withLine l emptyLine) (filled l output written) (written + length (said l output written)) ≡ comesTo input taken l output written
+  pub goes-on : (input : List ℕ) (taken : ℕ) → l .ended ≡ false → ltb (length output - written) (waiting (l .line)) ≡ false → comesTo input taken (withLine l emptyLine) (filled l output written) (written + length (unwrittenText l output written)) ≡ comesTo input taken l output written
   goes-on input taken on none =
-      let w = said l output written in
+      let w = unwrittenText l output written in
       let room = length output - written in
       let less : length (filled l output written) - (written + length w) ≡ room - length w = omega (arith, filled-length) in
       ap (λ (n : ℕ). onceRead taken (written + length w) (filled l output written) (pieceOf (withLine l emptyLine) (drop taken input) n)) less
       ∙ sym (ap (onceRead taken written output) (flush-first l room on none (drop taken input)) ∙ turned taken _)
 
   -- no turn more
-  ends-with : (taken : ℕ) (p : Piece) → p ≡ flushedOnly l (length output - written) → onceRead taken written output p ≡ (taken, written + length (said l output written), left l output written, filled l output written)
+  ends-with : (taken : ℕ) (p : Piece) → p ≡ flushedOnly l (length output - written) → onceRead taken written output p ≡ (taken, written + length (unwrittenText l output written), left l output written, filled l output written)
   ends-with taken p e =
       let none : taken + 0 ≡ taken = omega arith in
       ap (onceRead taken written output) e
-      ∙ ap {B = Read} (λ (n : ℕ). (n, written + length (said l output written), left l output written, filled l output written)) none
+      ∙ ap {B = Read} (λ (n : ℕ). (n, written + length (unwrittenText l output written), left l output written, filled l output written)) none
 
-  stops-at-end : (input : List ℕ) (taken : ℕ) → length input ≤ taken → comesTo input taken l output written ≡ (taken, written + length (said l output written), left l output written, filled l output written)
+  stops-at-end : (input : List ℕ) (taken : ℕ) → length input ≤ taken → comesTo input taken l output written ≡ (taken, written + length (unwrittenText l output written), left l output written, filled l output written)
   stops-at-end input taken over-all =
       ends-with taken _ (ap (λ (i : List ℕ). pieceOf l i (length output - written)) (drop-of-length-le input over-all))
 
-  stops-here : (input : List ℕ) (taken : ℕ) → taken < length input → stops l (length output - written) ≡ true → comesTo input taken l output written ≡ (taken, written + length (said l output written), left l output written, filled l output written)
+  stops-here : (input : List ℕ) (taken : ℕ) → taken < length input → stops l (length output - written) ≡ true → comesTo input taken l output written ≡ (taken, written + length (unwrittenText l output written), left l output written, filled l output written)
   stops-here input taken more stop =
       let room = length output - written in
-      let w = said l output written in
+      let w = unwrittenText l output written in
       let first : drop taken input ≡ getD input taken 0 ∷ drop (taken + 1) input = rw (add-one, drop-cons input taken 0) in
       let next = absorbed (left l output written) (getD input taken 0) in
       ends-with taken _
@@ -157,14 +157,14 @@ module _ (l : Listing) (output : List ℕ) (written : ℕ) (inside : written ≤
 
 -- the same with what the flush of the part that was lent came to
 module _ (l : Listing) (output : List ℕ) (written : ℕ) (inside : written ≤ length output) (r : Flushed) (ys : List ℕ) (done : flushOutcome r ys ≡ flushed (l .line) (take (length output - written) (drop written output))) where
-  of-part : flushOutcome r ys ≡ (length (said l output written), unwritten (l .line) (length output - written), over (said l output written) (drop written output))
+  of-part : flushOutcome r ys ≡ (length (unwrittenText l output written), unwritten (l .line) (length output - written), over (unwrittenText l output written) (drop written output))
   of-part =
       let rest = drop written output in
       done
       ∙ ap (flushed (l .line)) (lent-part output written)
       ∙ ap {B = ℕ × Line × List ℕ} (λ (n : ℕ). (length (writes (l .line) n), unwritten (l .line) n, over (writes (l .line) n) rest)) (length-drop written output)
 
-  counted : r .count ≡ length (said l output written)
+  counted : r .count ≡ length (unwrittenText l output written)
   counted = ap (λ (x : ℕ × Line × List ℕ). x .0) of-part
 
   line-left : r .line ≡ unwritten (l .line) (length output - written)
@@ -191,10 +191,10 @@ module _ (l : Listing) (output : List ℕ) (written : ℕ) (inside : written ≤
   more-is : hasMore (r .line) ≡ ltb (length output - written) (waiting (l .line))
   more-is = ap hasMore line-left ∙ left-where-more (l .line) (length output - written)
 
-  stopped : (taken : ℕ) (m : Listing) → m ≡ withLine l (r .line) → _≡_ {A = Read} (taken, written + r .count, m, withPart output written ys) (taken, written + length (said l output written), left l output written, filled l output written)
+  stopped : (taken : ℕ) (m : Listing) → m ≡ withLine l (r .line) → _≡_ {A = Read} (taken, written + r .count, m, withPart output written ys) (taken, written + length (unwrittenText l output written), left l output written, filled l output written)
   stopped taken m e =
       ap₂ {C = Read} (λ (n : ℕ) (x : Listing). (taken, written + n, x, withPart output written ys)) counted (left-is m e)
-      ∙ ap {B = Read} (λ (o : List ℕ). (taken, written + length (said l output written), left l output written, o)) part-filled
+      ∙ ap {B = Read} (λ (o : List ℕ). (taken, written + length (unwrittenText l output written), left l output written, o)) part-filled
 
   pub at-end : (input : List ℕ) (taken : ℕ) (m : Listing) → length input ≤ taken → m ≡ withLine l (r .line) → (taken, written + r .count, m, withPart output written ys) ≡ comesTo input taken l output written
   at-end input taken m over-all e = stopped taken m e ∙ sym (stops-at-end l output written inside input taken over-all)
@@ -217,7 +217,7 @@ module _ (l : Listing) (output : List ℕ) (written : ℕ) (inside : written ≤
       let room = length output - written in
       let no-more = sym more-is ∙ none in
       ap₂ (λ (o : List ℕ) (k : ℕ). comesTo input taken m o (written + k)) part-filled counted
-      ∙ ap (λ (x : Listing). comesTo input taken x (filled l output written) (written + length (said l output written)))
+      ∙ ap (λ (x : Listing). comesTo input taken x (filled l output written) (written + length (unwrittenText l output written)))
       (left-is m e ∙ ap (withLine l) (empty-where-no-more (l .line) room no-more))
       ∙ goes-on l output written inside input taken (sym (ended-is m e) ∙ going) no-more
 

@@ -30,6 +30,10 @@ unfoldable pub decimal : ℕ → List ℕ
 decimal n =
     atPlaces (1000000000 ∷ 100000000 ∷ 10000000 ∷ 1000000 ∷ 100000 ∷ 10000 ∷ 1000 ∷ 100 ∷ 10 ∷ []) n
 
+-- the same of a number below ten thousand
+abbrev pub upToFour : ℕ → List ℕ
+upToFour n = atPlaces (1000 ∷ 100 ∷ 10 ∷ []) n
+
 -- four hex digits with capitals; no code has a character above FFFF
 abbrev pub hexDigit : ℕ → ℕ
 hexDigit d = cond (ltb d 10) (0x30 + d) (0x37 + d)
@@ -78,6 +82,20 @@ eventWords (event.Preamble ch p) =
     wordFor (points "row ") ch ++ (space ∷ (decimal (p .row) ++ (space ∷ (decimal (styleOf (p .ty)) ++ (space ∷ flagDigit (p .underline) ∷ [])))))
 eventWords (event.MidRowChange ch m) =
     wordFor (points "mid ") ch ++ (space ∷ (decimal (midRowNumber m) ++ (space ∷ flagDigit (isUnderlined m) ∷ [])))
+
+-- whether an event is text, as most are
+abbrev pub isText : Cea608 → Bool
+isText (event.Text t) = true
+isText (event.NewMode ch m) = false
+isText (event.EraseDisplay ch) = false
+isText (event.EraseNonDisplay ch) = false
+isText (event.CarriageReturn ch) = false
+isText (event.Backspace ch) = false
+isText (event.EndOfCaption ch) = false
+isText (event.TabOffset ch n) = false
+isText (event.DeleteToEndOfRow ch) = false
+isText (event.Preamble ch p) = false
+isText (event.MidRowChange ch m) = false
 
 abbrev pub refusedWords : ℕ → List ℕ
 refusedWords n = points "refused " ++ decimal n

@@ -1,7 +1,7 @@
 // The listing's state, and what a piece of input does to it.
 ghost use mathlib.Core.Path.{_≡_};
 ghost use Prim.Native.Nat.{_<_};
-ghost use Rattle.lines.specs.Midway.{Between, Further};
+ghost use Rattle.lines.specs.Midway.{Between, Further, HasPair, Onward};
 ghost use Rattle.lines.specs.Pieces.{absorbed, afterPair, betweenPairs, counted, endedListing, freshListing, isDone, oneMore, readListing, readOutcome, refusedBy, withLine};
 ghost use Rattle.receiver.specs.Heard.{heardOutcome};
 ghost use Rattle.receiver.specs.Receiver.{step};
@@ -71,6 +71,56 @@ pub(crate) fn between_pairs(receiver: Cea608State, pairs: u32, refused: u32) -> 
     }
 }
 
+// How far whole pairs were listed, and what is known then.
+pub(crate) struct Listed {
+    pub receiver: Cea608State,
+    pub pairs: u32,
+    pub refused: u32,
+    pub taken: usize,
+    pub written: usize,
+}
+
+// Lists a whole pair, and more as long as there are more and there is room for any line. Nothing else decodes or puts a
+// pair's line, so that the compiler has both inside the loop and keeps the receiver in registers.
+pub(crate) fn list_pairs(
+    known: Cea608State,
+    read: u32,
+    refusals: u32,
+    input: &[u8],
+    from: usize,
+    out: &mut [u8],
+    at: usize,
+) -> Listed
+    requires { ⌜ HasPair (now input) from read (now out) at ⌝ }
+    ensures { λ r. ⌜ Onward (now (input .entry)) from known read refusals (now (out .entry)) at r (now (out .exit)) ⌝ }
+{
+    let mut receiver = known;
+    let mut pairs = read;
+    let mut refused = refusals;
+    let mut taken = from;
+    let mut written = at;
+    loop {
+        let decoded = receiver.decode(Pair(input[taken], input[taken + 1]));
+        let next = decoded.state;
+        let answer = decoded.answer;
+        written = put_line_of(out, written, pairs, answer);
+        refused = count_refusal(refused, answer);
+        receiver = next;
+        pairs += 1;
+        taken += 2;
+        if input.len() - taken < 2 || out.len() - written < 96 || 16_777_216 <= pairs {
+            break;
+        }
+    }
+    Listed {
+        receiver: receiver,
+        pairs: pairs,
+        refused: refused,
+        taken: taken,
+        written: written,
+    }
+}
+
 impl Listing {
     // Nothing read yet.
     pub fn new() -> Listing
@@ -112,21 +162,20 @@ impl Listing {
         let refused = self.refused;
         let ended = self.ended;
         let receiver = self.receiver;
-        let decoded = receiver.decode(pair);
-        let next = decoded.state;
-        let answer = decoded.answer;
+        let both = [pair.0, pair.1];
         let mut bytes = [0; 96];
-        let len = put_line_of(&mut bytes, 0, pairs, answer);
+        let listed = list_pairs(receiver, pairs, refused, &both, 0, &mut bytes, 0);
+        let next = listed.receiver;
         Listing {
             receiver: next,
             half: Half::Absent,
-            pairs: pairs + 1,
-            refused: count_refusal(refused, answer),
+            pairs: listed.pairs,
+            refused: listed.refused,
             ended: ended,
             line: Line {
                 bytes: bytes,
                 at: 0,
-                len: len,
+                len: listed.written,
             },
         }
     }
@@ -233,35 +282,24 @@ impl Listing {
         ensures { λ r. ⌜ Further (now (input .entry)) from self (now (out .entry)) at r (now (out .exit)) ⌝ }
     {
         let half = self.half;
-        let mut receiver = self.receiver;
-        let mut pairs = self.pairs;
-        let mut refused = self.refused;
-        let mut taken = from;
-        let mut written = at;
-        match half {
-            Half::Absent => {}
-            Half::Byte(_) => {
+        let receiver = self.receiver;
+        let pairs = self.pairs;
+        let refused = self.refused;
+        if let Half::Absent = half {
+            if 2 <= input.len() - from && 96 <= out.len() - at && pairs < 16_777_216 {
+                let listed = list_pairs(receiver, pairs, refused, input, from, out, at);
+                let next = listed.receiver;
                 return Progress {
-                    taken: from,
-                    written: at,
-                    listing: self,
+                    taken: listed.taken,
+                    written: listed.written,
+                    listing: between_pairs(next, listed.pairs, listed.refused),
                 };
             }
         }
-        while 2 <= input.len() - taken && 96 <= out.len() - written && pairs < 16_777_216 {
-            let decoded = receiver.decode(Pair(input[taken], input[taken + 1]));
-            let next = decoded.state;
-            let answer = decoded.answer;
-            written = put_line_of(out, written, pairs, answer);
-            refused = count_refusal(refused, answer);
-            receiver = next;
-            pairs += 1;
-            taken += 2;
-        }
         Progress {
-            taken: taken,
-            written: written,
-            listing: between_pairs(receiver, pairs, refused),
+            taken: from,
+            written: at,
+            listing: self,
         }
     }
 

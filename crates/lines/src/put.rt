@@ -1,8 +1,11 @@
 // Bytes put into lent memory from a place on, as long as there is a place for them. Each returns the place after them.
+// Those that require a place for each byte make no test.
+ghost use mathlib.Core.List.{[], _∷_};
 ghost use mathlib.Core.Path.{_≡_};
-ghost use Prim.Native.Nat.{_%_, _<_};
+ghost use Prim.Native.Nat.{_+_, _%_, _≤_, _<_};
+ghost use lib.ListN.{length};
 ghost use Rattle.lines.specs.Put.{putAll, putOne};
-ghost use Rattle.lines.specs.Words.{atPlace, decimal, hex, hexDigit};
+ghost use Rattle.lines.specs.Words.{atPlace, decimal, hexDigit, upToFour};
 
 pub(crate) fn put(out: &mut [u8], at: usize, byte: u8) -> usize
     ensures { λ r. ⌜ (r, now (out .exit)) ≡ putOne (at, now (out .entry)) byte ⌝ }
@@ -52,22 +55,88 @@ pub(crate) fn put_decimal(out: &mut [u8], at: usize, number: u32) -> usize
     put(out, p1, 0x30 + (number % 10) as u8)
 }
 
+// One byte, where there is a place for it.
+pub(crate) fn put_one(out: &mut [u8], at: usize, byte: u8) -> usize
+    requires { ⌜ at + 1 ≤ length (now out) ⌝ }
+    ensures { λ r. ⌜ (r, now (out .exit)) ≡ putOne (at, now (out .entry)) byte ⌝ }
+{
+    out[at] = byte;
+    at + 1
+}
+
+// Four bytes, where there is a place for each.
+pub(crate) fn put_four(out: &mut [u8], at: usize, a: u8, b: u8, c: u8, d: u8) -> usize
+    requires { ⌜ at + 4 ≤ length (now out) ⌝ }
+    ensures { λ r. ⌜ (r, now (out .exit)) ≡ putAll (at, now (out .entry)) (a ∷ b ∷ c ∷ d ∷ []) ⌝ }
+{
+    let first = put_one(out, at, a);
+    let second = put_one(out, first, b);
+    let third = put_one(out, second, c);
+    put_one(out, third, d)
+}
+
+// The digit at a power of ten, where the number reaches it and there is a place for it.
+pub(crate) fn put_ten(out: &mut [u8], at: usize, place: u32, number: u32) -> usize
+    requires { ⌜ (0 < place) × (at + 1 ≤ length (now out)) ⌝ }
+    ensures { λ r. ⌜ (r, now (out .exit)) ≡ putAll (at, now (out .entry)) (atPlace place number) ⌝ }
+{
+    if number < place {
+        return at;
+    }
+    put_one(out, at, 0x30 + (number / place % 10) as u8)
+}
+
+// A number below ten thousand.
+pub(crate) fn put_short(out: &mut [u8], at: usize, number: u32) -> usize
+    requires { ⌜ at + 4 ≤ length (now out) ⌝ }
+    ensures { λ r. ⌜ (r, now (out .exit)) ≡ putAll (at, now (out .entry)) (upToFour number) ⌝ }
+{
+    let p3 = put_ten(out, at, 1_000, number);
+    let p2 = put_ten(out, p3, 100, number);
+    let p1 = put_ten(out, p2, 10, number);
+    put_one(out, p1, 0x30 + (number % 10) as u8)
+}
+
+// A number below a hundred million, four digits at a time.
+pub(crate) fn put_number(out: &mut [u8], at: usize, number: u32) -> usize
+    requires { ⌜ (number < 100000000) × (at + 8 ≤ length (now out)) ⌝ }
+    ensures { λ r. ⌜ (r, now (out .exit)) ≡ putAll (at, now (out .entry)) (decimal number) ⌝ }
+{
+    if number < 10_000 {
+        return put_short(out, at, number);
+    }
+    let low = number % 10_000;
+    let next = put_short(out, at, number / 10_000);
+    put_four(
+        out,
+        next,
+        0x30 + (low / 1000 % 10) as u8,
+        0x30 + (low / 100 % 10) as u8,
+        0x30 + (low / 10 % 10) as u8,
+        0x30 + (low % 10) as u8,
+    )
+}
+
+// With capitals. A `match` is one load.
 pub(crate) fn hex_digit(digit: u8) -> u8
     ensures { λ r. ⌜ r ≡ hexDigit (digit % 16) ⌝ }
 {
-    let d = digit % 16;
-    if d < 10 {
-        return 0x30 + d;
+    match digit % 16 {
+        0 => 0x30,
+        1 => 0x31,
+        2 => 0x32,
+        3 => 0x33,
+        4 => 0x34,
+        5 => 0x35,
+        6 => 0x36,
+        7 => 0x37,
+        8 => 0x38,
+        9 => 0x39,
+        10 => 0x41,
+        11 => 0x42,
+        12 => 0x43,
+        13 => 0x44,
+        14 => 0x45,
+        _ => 0x46,
     }
-    0x37 + d
-}
-
-// Four hex digits with capitals.
-pub(crate) fn put_hex(out: &mut [u8], at: usize, number: u32) -> usize
-    ensures { λ r. ⌜ (r, now (out .exit)) ≡ putAll (at, now (out .entry)) (hex number) ⌝ }
-{
-    let first = put(out, at, hex_digit((number / 4096 % 16) as u8));
-    let second = put(out, first, hex_digit((number / 256 % 16) as u8));
-    let third = put(out, second, hex_digit((number / 16 % 16) as u8));
-    put(out, third, hex_digit((number % 16) as u8))
 }

@@ -1,12 +1,20 @@
 // The words of the listing's lines, put into lent memory from a place on.
+ghost use mathlib.Core.Bool.{false};
+ghost use mathlib.Core.List.{[], _∷_, _++_};
 ghost use mathlib.Core.Path.{_≡_};
+ghost use Prim.Native.Nat.{_+_, _≤_, _<_};
+ghost use lib.ListN.{length};
+ghost use Rattle.code.specs.Characters.{points};
 ghost use Rattle.event.specs.declared.event.Cea608.the-variants as event;
 ghost use Rattle.lines.specs.Put.{putAll};
-ghost use Rattle.lines.specs.Words.{channelDigit, characterWord, eventWords, flagDigit, lastLine, line, lineOf, modeWord, refusedWords, wordFor};
+ghost use Rattle.lines.specs.Words.{channelDigit, characterWord, eventWords, flagDigit, isText, lastLine, line, lineOf, modeWord, refusedWords, wordFor};
 ghost use Rattle.receiver.specs.Heard.{heardOutcome};
+use crate::put::hex_digit;
 use crate::put::put;
 use crate::put::put_decimal;
-use crate::put::put_hex;
+use crate::put::put_four;
+use crate::put::put_number;
+use crate::put::put_one;
 use crate::put::put_word;
 use code::Channel;
 use code::Character;
@@ -32,16 +40,6 @@ pub(crate) fn flag_digit(flag: bool) -> u8
     0x30
 }
 
-// A code point as four hex digits, or a dash.
-pub(crate) fn put_character(out: &mut [u8], at: usize, character: Character) -> usize
-    ensures { λ r. ⌜ (r, now (out .exit)) ≡ putAll (at, now (out .entry)) (characterWord character) ⌝ }
-{
-    match character {
-        Character::Absent => put_word(out, at, b"-"),
-        Character::Point(c) => put_hex(out, at, c),
-    }
-}
-
 pub(crate) fn put_mode(out: &mut [u8], at: usize, mode: Mode) -> usize
     ensures { λ r. ⌜ (r, now (out .exit)) ≡ putAll (at, now (out .entry)) (modeWord mode) ⌝ }
 {
@@ -60,21 +58,6 @@ pub(crate) fn put_for(out: &mut [u8], at: usize, word: &[u8], channel: Channel) 
 {
     let said = put_word(out, at, word);
     put(out, said, channel_digit(channel))
-}
-
-pub(crate) fn put_text(out: &mut [u8], at: usize, text: Text) -> usize
-    ensures { λ r. ⌜ (r, now (out .exit)) ≡ putAll (at, now (out .entry)) (eventWords (event.Text text)) ⌝ }
-{
-    let channel = text.channel;
-    let first = text.char1;
-    let second = text.char2;
-    let said = put_for(out, at, b"text ", channel);
-    let spaced = put(out, said, 0x20);
-    let flagged = put(out, spaced, flag_digit(text.needs_backspace));
-    let begun = put(out, flagged, 0x20);
-    let half = put_character(out, begun, first);
-    let between = put(out, half, 0x20);
-    put_character(out, between, second)
 }
 
 pub(crate) fn put_row(
@@ -120,11 +103,13 @@ pub(crate) fn put_tab(out: &mut [u8], at: usize, channel: Channel, columns: u8) 
     put_decimal(out, spaced, columns as u32)
 }
 
+// The words of an event that is no text.
 pub(crate) fn put_event(out: &mut [u8], at: usize, event: Cea608) -> usize
+    requires { ⌜ isText event ≡ false ⌝ }
     ensures { λ r. ⌜ (r, now (out .exit)) ≡ putAll (at, now (out .entry)) (eventWords event) ⌝ }
 {
     match event {
-        Cea608::Text(text) => put_text(out, at, text),
+        Cea608::Text(_) => at,
         Cea608::NewMode(channel, mode) => put_new_mode(out, at, channel, mode),
         Cea608::EraseDisplay(channel) => put_for(out, at, b"erase ", channel),
         Cea608::EraseNonDisplay(channel) => put_for(out, at, b"erasehidden ", channel),
@@ -138,10 +123,58 @@ pub(crate) fn put_event(out: &mut [u8], at: usize, event: Cea608) -> usize
     }
 }
 
-// The line of an event of the pair with this number.
+// A space, and a code point as four hex digits or a dash, where there is room for both.
+pub(crate) fn put_point(out: &mut [u8], at: usize, character: Character) -> usize
+    requires { ⌜ at + 5 ≤ length (now out) ⌝ }
+    ensures { λ r. ⌜ (r, now (out .exit)) ≡ putAll (at, now (out .entry)) (0x20 ∷ characterWord character) ⌝ }
+{
+    let next = put_one(out, at, 0x20);
+    match character {
+        Character::Absent => put_one(out, next, 0x2D),
+        Character::Point(c) => put_four(
+            out,
+            next,
+            hex_digit((c / 4096 % 16) as u8),
+            hex_digit((c / 256 % 16) as u8),
+            hex_digit((c / 16 % 16) as u8),
+            hex_digit((c % 16) as u8),
+        ),
+    }
+}
+
+// What stands between the number of a line of text and its characters, where there is room.
+pub(crate) fn put_text_word(out: &mut [u8], at: usize, channel: Channel, flag: bool) -> usize
+    requires { ⌜ at + 9 ≤ length (now out) ⌝ }
+    ensures { λ r. ⌜ (r, now (out .exit)) ≡ putAll (at, now (out .entry)) (0x20 ∷ (wordFor (points "text ") channel ++ (0x20 ∷ flagDigit flag ∷ []))) ⌝ }
+{
+    let begun = put_four(out, at, 0x20, 0x74, 0x65, 0x78);
+    let said = put_four(out, begun, 0x74, 0x20, channel_digit(channel), 0x20);
+    put_one(out, said, flag_digit(flag))
+}
+
+// The line of text of the pair with this number, where there is room for the longest. Most lines are such.
+pub(crate) fn put_text_line(out: &mut [u8], at: usize, number: u32, text: Text) -> usize
+    requires { ⌜ (number < 100000000) × (at + 28 ≤ length (now out)) ⌝ }
+    ensures { λ r. ⌜ (r, now (out .exit)) ≡ putAll (at, now (out .entry)) (line number (eventWords (event.Text text))) ⌝ }
+{
+    let channel = text.channel;
+    let first = text.char1;
+    let second = text.char2;
+    let numbered = put_number(out, at, number);
+    let said = put_text_word(out, numbered, channel, text.needs_backspace);
+    let half = put_point(out, said, first);
+    let end = put_point(out, half, second);
+    put_one(out, end, 0x0A)
+}
+
+// The line of an event of the pair with this number, where there is room for a line of text.
 pub(crate) fn put_event_line(out: &mut [u8], at: usize, number: u32, event: Cea608) -> usize
+    requires { ⌜ (number < 100000000) × (at + 28 ≤ length (now out)) ⌝ }
     ensures { λ r. ⌜ (r, now (out .exit)) ≡ putAll (at, now (out .entry)) (line number (eventWords event)) ⌝ }
 {
+    if let Cea608::Text(text) = event {
+        return put_text_line(out, at, number, text);
+    }
     let numbered = put_decimal(out, at, number);
     let spaced = put(out, numbered, 0x20);
     let said = put_event(out, spaced, event);
@@ -159,8 +192,9 @@ pub(crate) fn put_refused_line(out: &mut [u8], at: usize, number: u32, refusal: 
     put(out, refused, 0x0A)
 }
 
-// The line of what a pair gave, if it gave anything.
+// The line of what a pair gave, if it gave anything, with the same room.
 pub(crate) fn put_line_of(out: &mut [u8], at: usize, number: u32, heard: Heard) -> usize
+    requires { ⌜ (number < 100000000) × (at + 28 ≤ length (now out)) ⌝ }
     ensures { λ r. ⌜ (r, now (out .exit)) ≡ putAll (at, now (out .entry)) (lineOf number (heardOutcome heard)) ⌝ }
 {
     match heard {

@@ -1,10 +1,9 @@
 -- The receiver, from 01's section of that name. That a repeated control code acts once is 47 CFR 79.101 (i)(4)'s. Which
 -- copies act, what a corrupted pair leaves, and what text does to the wait for a repeat are 01's and the crate's.
-use mathlib.Core.Bool.{Bool, false, cond, _&&_}
+use mathlib.Core.Bool.{Bool, false, cond}
 use mathlib.Core.Option.{Option, none}
-use lib.Dec.{eqb}
 use Rattle.code.specs.Outcome.{Outcome, answer, refused}
-use Rattle.code.specs.Read.{readPair}
+use Rattle.code.specs.Read.{readPair, samePair}
 use Rattle.code.specs.declared.code.Code.{Code}
 use Rattle.code.specs.declared.code.Code.the-variants as code
 use Rattle.code.specs.declared.control.CodeField.{CodeField}
@@ -27,7 +26,7 @@ state p ch f = record { «last_data» = p; «last_channel» = ch; «last_receive
 
 -- all absent
 abbrev pub fresh : Cea608State
-fresh = state last.Absent channel.Unknown last-field.Unknown
+fresh = state last.Absent channel.Absent last-field.Absent
 
 -- the field that a command named last, whatever came after it
 abbrev pub lastField : Cea608State → LastField
@@ -36,7 +35,7 @@ lastField s = s .«last_received_field»
 -- the pair is the last pair, both bytes as received
 abbrev pub isLast : Pair → LastPair → Bool
 isLast p last.Absent = false
-isLast p (last.Was q) = eqb (q .0) (p .0) && eqb (q .1) (p .1)
+isLast p (last.Was q) = samePair q p
 
 -- a command sets the field if it has one
 abbrev pub fieldAfter : CodeField → LastField → LastField
@@ -58,7 +57,7 @@ heardCommand s p c =
 
 -- any other pair is text for the last channel, once one is known
 abbrev pub textFor : LastChannel → Code → Code → Option Cea608
-textFor channel.Unknown x y = none
+textFor channel.Absent x y = none
 textFor (channel.Known ch) x y = textEvent ch x y
 
 abbrev pub heardText : Cea608State → Pair → Code → Code → Stepped

@@ -1,7 +1,9 @@
 // The receiver: what it remembers of the pairs of one field, and what a pair does to it.
 ghost use mathlib.Core.Path.{_≡_};
+ghost use Rattle.code.specs.Outcome.{answer};
+ghost use Rattle.receiver.specs.Heard.{heardOutcome};
 ghost use Rattle.receiver.specs.Receiver.{fresh, step, decodedOutcome, heardCommand, heardText, isLast, lastField};
-ghost use Rattle.receiver.specs.Receiver.{fieldAfter};
+ghost use Rattle.receiver.specs.Receiver.{fieldAfter, textFor};
 use crate::heard::Heard;
 use crate::heard::event_of;
 use crate::heard::text_event;
@@ -21,13 +23,13 @@ pub enum LastPair {
 
 // The channel that text goes to, once a command has named one.
 pub enum LastChannel {
-    Unknown,
+    Absent,
     Known(Channel),
 }
 
 // The field that a command named last.
 pub enum LastField {
-    Unknown,
+    Absent,
     Known(Field),
 }
 
@@ -51,8 +53,8 @@ impl Cea608State {
     {
         Cea608State {
             last_data: LastPair::Absent,
-            last_channel: LastChannel::Unknown,
-            last_received_field: LastField::Unknown,
+            last_channel: LastChannel::Absent,
+            last_received_field: LastField::Absent,
         }
     }
 
@@ -66,12 +68,10 @@ impl Cea608State {
                 state: self,
             };
         };
-        match first {
-            Code::Control(code) => self.command(pair, code),
-            Code::Nul => self.text(pair, first, second),
-            Code::Letter(_) => self.text(pair, first, second),
-            Code::Unknown(_) => self.text(pair, first, second),
-        }
+        let Code::Control(code) = first else {
+            return self.text(pair, first, second);
+        };
+        self.command(pair, code)
     }
 
     // A command: skipped where it repeats the last pair; then no repeat is awaited.
@@ -116,15 +116,8 @@ impl Cea608State {
             last_channel: known,
             last_received_field: last_field,
         };
-        let LastChannel::Known(channel) = known else {
-            return Decoded {
-                answer: Heard::Nothing,
-                state: next,
-            };
-        };
-        let answer = text_event(channel, first, second);
         Decoded {
-            answer: answer,
+            answer: known.text(first, second),
             state: next,
         }
     }
@@ -141,6 +134,18 @@ impl Cea608State {
         ensures { λ r. ⌜ r ≡ fresh ⌝ }
     {
         Cea608State::new()
+    }
+}
+
+impl LastChannel {
+    // Two single codes as text, once a channel is known.
+    pub(crate) fn text(self, first: Code, second: Code) -> Heard
+        ensures { λ r. ⌜ heardOutcome r ≡ answer (textFor self first second) ⌝ }
+    {
+        let LastChannel::Known(channel) = self else {
+            return Heard::Nothing;
+        };
+        text_event(channel, first, second)
     }
 }
 

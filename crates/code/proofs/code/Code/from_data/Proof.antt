@@ -1,8 +1,8 @@
--- `code::code::Code::from_data` meets its contract: both bytes pass or the pair is refused, and the upper digit of the
--- first distinguishes a command from text.
+-- `code::code::Code::from_data` meets its contract: both bytes pass or the pair is refused, the upper digit of the first
+-- distinguishes a command from text, and below 18 is at most 17.
 -- Assumes nothing.
 use borrow.Author.Needs.{needs}
-use borrow.Author.Tests.{eq-eqb, ne-eqb, not-false, not-true}
+use borrow.Author.Tests.{eq-eqb, le-leb, lt-leb, ne-eqb, not-false, not-true}
 use native.Mathlib.Omega.{arith}
 use Rattle.code.proofs.Meaning.{in-row-one}
 use Rattle.code.specs.Read.{readPair}
@@ -30,7 +30,16 @@ strip-parity-requires-2 : tie.Need-strip-parity-requires-2
 strip-parity-requires-2 c κs = search needs
 
 parse-requires : tie.Need-parse-requires
-parse-requires c κs = omega (arith, c .before .before .strip-parity .ensures, c .before .strip-parity2 .ensures)
+parse-requires c κs =
+    let first = c .before .before .before .strip-parity .ensures in
+    let second = c .before .before .strip-parity2 .ensures in
+    (omega (arith, first), omega (arith, first), omega (arith, second), simp (le-leb (c .before .before .before .strip-parity .result) 0x17 (omega arith)))
+
+parse-requires-2 : tie.Need-parse-requires-2
+parse-requires-2 c κs =
+    let first = c .before .before .before .strip-parity .ensures in
+    let second = c .before .before .strip-parity2 .ensures in
+    (omega (arith, first), omega (arith, first), omega (arith, second), simp (lt-leb (c .before .before .before .strip-parity .result) 0x17 (omega arith)))
 
 from-byte-requires : tie.Need-from-byte-requires
 from-byte-requires c κs = search needs
@@ -42,20 +51,35 @@ returns-3 : tie.Need-returns-3
 unfolding readPair
 returns-3 c =
     simp (
-      ← c .before .before .before .before .before .before .before .check-odd-parity .ensures,
-      not-false (c .before .before .before .before .before .before .before .check-odd-parity .result) (c .before .before .before .before .before .before .if1 .left),
-      ← c .before .before .before .before .before .check-odd-parity2 .ensures,
-      not-false (c .before .before .before .before .before .check-odd-parity2 .result) (c .before .before .before .before .if2 .left),
-      ← c .before .before .before .strip-parity .ensures,
-      ← c .before .before .strip-parity2 .ensures,
-      ← in-row-one (c .before .before .before .strip-parity .result) (omega (arith, c .before .before .before .strip-parity .ensures)),
-      eq-eqb _ _ (c .before .if3 .taken),
+      ← c .before .before .before .before .before .before .before .before .check-odd-parity .ensures,
+      not-false (c .before .before .before .before .before .before .before .before .check-odd-parity .result) (c .before .before .before .before .before .before .before .if1 .left),
+      ← c .before .before .before .before .before .before .check-odd-parity2 .ensures,
+      not-false (c .before .before .before .before .before .before .check-odd-parity2 .result) (c .before .before .before .before .before .if2 .left),
+      ← c .before .before .before .before .strip-parity .ensures,
+      ← c .before .before .before .strip-parity2 .ensures,
+      ← in-row-one (c .before .before .before .before .strip-parity .result) (omega (arith, c .before .before .before .before .strip-parity .ensures)),
+      eq-eqb _ _ (c .before .before .if3 .taken),
       c .parse .ensures,
     )
 
 returns-4 : tie.Need-returns-4
 unfolding readPair
 returns-4 c =
+    simp (
+      ← c .before .before .before .before .before .before .before .before .check-odd-parity .ensures,
+      not-false (c .before .before .before .before .before .before .before .before .check-odd-parity .result) (c .before .before .before .before .before .before .before .if1 .left),
+      ← c .before .before .before .before .before .before .check-odd-parity2 .ensures,
+      not-false (c .before .before .before .before .before .before .check-odd-parity2 .result) (c .before .before .before .before .before .if2 .left),
+      ← c .before .before .before .before .strip-parity .ensures,
+      ← c .before .before .before .strip-parity2 .ensures,
+      ← in-row-one (c .before .before .before .before .strip-parity .result) (omega (arith, c .before .before .before .before .strip-parity .ensures)),
+      eq-eqb _ _ (c .before .before .if3 .taken),
+      c .parse2 .ensures,
+    )
+
+returns-5 : tie.Need-returns-5
+unfolding readPair
+returns-5 c =
     simp (
       ← c .before .before .before .before .before .before .before .before .check-odd-parity .ensures,
       not-false (c .before .before .before .before .before .before .before .before .check-odd-parity .result) (c .before .before .before .before .before .before .before .if1 .left),
@@ -80,7 +104,9 @@ from-data-spec =
     strip-parity-requires
     strip-parity-requires-2
     parse-requires
+    parse-requires-2
     from-byte-requires
     from-byte-requires-2
     returns-3
-    returns-4)
+    returns-4
+    returns-5)

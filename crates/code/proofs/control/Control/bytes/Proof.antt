@@ -43,8 +43,8 @@ add-t17 c = omega (arith, tab-back (c .before .before .self4 .given .0 .0) .0)
 enum-known-self-5 : tie.Need-enum-known-self-5
 enum-known-self-5 c = search needs
 
-bytes-requires-3 : tie.Need-bytes-requires-3
-bytes-requires-3 c κs = search needs
+bytes-in-row-requires : tie.Need-bytes-in-row-requires
+bytes-in-row-requires c κs = search needs
 
 enum-known-self-6 : tie.Need-enum-known-self-6
 enum-known-self-6 c = search needs
@@ -68,7 +68,7 @@ returns-6 : tie.Need-returns-6
 returns-6 c = rw (c .before .before .self4 .given .1, c .number2 .ensures)
 
 returns-7 : tie.Need-returns-7
-returns-7 c = rw (c .before .before .before .self5 .given .1) (simp (c .bytes3 .ensures, le-leb _ 14 (le-of-suc-le-suc (c .before .if1 .taken))))
+returns-7 c = rw (c .before .before .before .self5 .given .1) (simp (c .bytes-in-row .ensures, le-leb _ 14 (le-of-suc-le-suc (c .before .if1 .taken))))
 
 returns-8 : tie.Need-returns-8
 returns-8 c = rw (c .before .before .self5 .given .1) (simp (lt-leb _ 14 (c .if1 .left)))
@@ -91,7 +91,7 @@ bytes-spec =
     number-requires-2
     add-t17
     enum-known-self-5
-    bytes-requires-3
+    bytes-in-row-requires
     enum-known-self-6
     returns
     returns-2

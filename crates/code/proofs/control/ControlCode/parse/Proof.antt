@@ -7,9 +7,6 @@ use Rattle.code.proofs.Meaning.{parsed, without-field-between}
 use Rattle.code.proofs.control.ControlCode.parse.Statement.{statement}
 use Rattle.code.proofs.control.ControlCode.parse.Tie as tie
 
-channel-of-requires : tie.Need-channel-of-requires
-channel-of-requires c κs = search needs
-
 add-prefix : tie.Need-add-prefix
 add-prefix c = search needs
 
@@ -21,7 +18,7 @@ without-field-requires c κs = search needs
 
 parse-requires : tie.Need-parse-requires
 parse-requires c κs =
-    let begun = c .before .before .before in
+    let begun = c .before .before in
     let a = begun .args .first in
     let b = begun .args .second in
     let small = without-field-between (a % 8 + 16) b (omega arith) (omega arith) in
@@ -36,24 +33,24 @@ enum-told c = search needs
 
 returns : tie.Need-returns
 returns c =
-    let begun = c .before .before .before .before .before .before .before in
+    let begun = c .before .before .before .before .before .before in
     rw (c .before .control .given .1) at
     (parsed (begun .args .first) (begun .args .second) _ _ _ _
     (begun .pre .0)
     (begun .pre .1)
-    (c .before .before .before .before .before .before .channel-of .ensures)
+    (begun .pre .3)
     (c .before .before .before .before .before .field-of .ensures)
     (c .before .before .before .before .without-field .ensures)
     (c .before .before .before .parse .ensures))
 
 returns-2 : tie.Need-returns-2
 returns-2 c =
-    let begun = c .before .before .before .before .before .before in
+    let begun = c .before .before .before .before .before in
     rw (c .enum-told .given .1) at
     (parsed (begun .args .first) (begun .args .second) _ _ _ _
     (begun .pre .0)
     (begun .pre .1)
-    (c .before .before .before .before .before .channel-of .ensures)
+    (begun .pre .3)
     (c .before .before .before .before .field-of .ensures)
     (c .before .before .before .without-field .ensures)
     (c .before .before .parse .ensures))
@@ -62,7 +59,6 @@ pub parse-spec : {M : Type 1} → statement M
 parse-spec =
     tie.close
     (tie.spec
-    channel-of-requires
     add-prefix
     field-of-requires
     without-field-requires

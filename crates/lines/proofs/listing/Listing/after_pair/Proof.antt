@@ -1,36 +1,38 @@
--- `lines::listing::Listing::after_pair` meets its contract: the pair is decoded, and its line waits.
+-- `lines::listing::Listing::after_pair` meets its contract: the two bytes are one pair, and its line waits.
 -- Assumes nothing.
 use borrow.Author.Needs.{needs}
-use mathlib.Core.Path.{ap, ap₂, _∙_}
-use Prim.Native.Nat.{ℕ, _+_}
-use Rattle.lines.specs.Pieces.{afterPair}
+use mathlib.Core.Path.{refl, ap₂, _∙_}
+use Prim.Native.Nat.{ℕ}
+use Rattle.lines.specs.Line.{emptyLine, says}
+use Rattle.lines.specs.Pieces.{counted}
 use Rattle.lines.specs.Put.{Placed}
+use Rattle.lines.specs.Words.{lineOf}
 use Rattle.lines.specs.declared.listing.Half.the-variants as half
 use Rattle.lines.specs.declared.listing.Listing.{Listing}
+use Rattle.receiver.specs.Receiver.{step}
+use Rattle.receiver.specs.declared.state.Cea608State.{Cea608State}
 use Rattle.lines.proofs.listing.Listing.after_pair.Statement.{statement}
 use Rattle.lines.proofs.listing.Listing.after_pair.Tie as tie
 
-decode-requires : tie.Need-decode-requires
-decode-requires c κs = search needs
+slice-aggregate-list-pairs : tie.Need-slice-aggregate-list-pairs
+slice-aggregate-list-pairs c = search needs
 
-slice-aggregate-put-line-of : tie.Need-slice-aggregate-put-line-of
-slice-aggregate-put-line-of c = search needs
+slice-aggregate-list-pairs-2 : tie.Need-slice-aggregate-list-pairs-2
+slice-aggregate-list-pairs-2 c = search needs
 
-put-line-of-requires : tie.Need-put-line-of-requires
-put-line-of-requires c κs = search needs
-
-add-t15 : tie.Need-add-t15
-add-t15 c = search needs
-
-count-refusal-requires : tie.Need-count-refusal-requires
-count-refusal-requires c κs = search needs
+list-pairs-requires : tie.Need-list-pairs-requires
+list-pairs-requires c κs = search needs
 
 returns : tie.Need-returns
 returns c =
-    let l = c .before .before .before .before .before .before .before .args .self in
-    let d = c .before .before .before .before .before .decode in
-    ap₂ {C = Listing} (λ (s : Placed) (q : ℕ). record { receiver = d .result .state; half = half.Absent; pairs = l .pairs + 1; refused = q; ended = l .ended; line = record { bytes = s .1; at = 0; len = s .0 } }) (c .before .before .put-line-of .ensures) (c .count-refusal .ensures)
-    ∙ ap (afterPair l) (d .ensures)
+    let l = c .before .before .before .before .before .before .args .self in
+    let heard = step (l .receiver) (c .before .before .before .before .before .before .args .pair) in
+    let listed = c .before .before .list-pairs .result in
+    let one = c .before .before .list-pairs .ensures .5 refl in
+    ap₂ {C = Listing} (λ (q : ℕ) (s : Placed). record { receiver = listed .receiver; half = half.Absent; pairs = listed .pairs; refused = q; ended = l .ended; line = record { bytes = s .1; at = 0; len = s .0 } }) (one .2) (one .3)
+    ∙ ap₂ {C = Listing} (λ (r : Cea608State) (k : ℕ). record { receiver = r; half = half.Absent; pairs = k; refused = counted (heard .0) (l .refused); ended = l .ended; line = says emptyLine (lineOf (l .pairs) (heard .0)) }) (one .0) (one .1)
 
 pub after-pair-spec : {M : Type 1} → statement M
-after-pair-spec = tie.close (tie.spec decode-requires slice-aggregate-put-line-of put-line-of-requires add-t15 count-refusal-requires returns)
+after-pair-spec =
+    tie.close
+    (tie.spec slice-aggregate-list-pairs slice-aggregate-list-pairs-2 list-pairs-requires returns)
