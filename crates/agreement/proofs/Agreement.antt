@@ -4,7 +4,7 @@
 -- Assumes nothing.
 use mathlib.Core.Bool.{true, true≢false}
 use mathlib.Core.List.{List, [], _∷_, _++_, append-nil}
-use mathlib.Core.Option.{Option, none, some}
+use mathlib.Core.Option.{none}
 use mathlib.Core.Path.{_≡_, refl, ap, sym, subst, _∙_}
 use lib.Dec.{eqb}
 use Rattle.code.specs.declared.pair.Pair.{Pair}
@@ -22,11 +22,13 @@ use Rattle.sender.specs.Good.{Good}
 use Rattle.agreement.specs.OneByOne.{AllOdd, OneByOne}
 use Rattle.sender.specs.Sender.{freshSender, pushSender, sendSender, view}
 use Rattle.sender.specs.Sending.{noneOwed, stillOwed}
+use Rattle.sender.specs.declared.sender.Owed.{Owed}
+use Rattle.sender.specs.declared.sender.Owed.the-variants as owed
 use Rattle.sender.specs.declared.sender.Sender.{Sender}
 
-nothing-owed : (o : Option Pair) → noneOwed o ≡ true → stillOwed o ≡ []
-nothing-owed none e = refl
-nothing-owed (some p) e = absurd (true≢false (sym e))
+nothing-owed : (o : Owed) → noneOwed o ≡ true → stillOwed o ≡ []
+nothing-owed owed.Absent e = refl
+nothing-owed (owed.Repeat p) e = absurd (true≢false (sym e))
 
 acts-stay-good : (acts : List Act) (s : Sender) → Good s → Good (afterActs acts s)
 acts-stay-good [] s g = g
@@ -38,7 +40,7 @@ pub sent-once-idle : (acts : List Act) → EndsIdle acts → sentBy acts freshSe
 sent-once-idle acts idle =
     let end = view (afterActs acts freshSender) in
     let is-idle = said-idle (afterActs acts freshSender) (acts-stay-good acts freshSender fresh-good) idle in
-    let none-left = nothing-owed (end .owed) (both-right (eqb (count (end .queue)) 0) (noneOwed (end .owed)) is-idle) in
+    let none-left = nothing-owed (end .repeats .owed) (both-right (eqb (count (end .queue)) 0) (noneOwed (end .repeats .owed)) is-idle) in
     sym (append-nil (sentBy acts freshSender))
     ∙ ap (λ (l : List Pair). sentBy acts freshSender ++ l) (sym none-left)
     ∙ sent-is-doubled acts freshSender fresh-good

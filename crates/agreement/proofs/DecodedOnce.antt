@@ -96,10 +96,10 @@ module _ (p : Pair) (ps : List Pair) (odd : isOddPair p ≡ true) (go : Continue
       heard-in-front s t _ _ _ p p qs′ ps (text-is-never-skipped s p (parity .0) (parity .1) is) told
       (go (goesOn h p) qs′ _ _ rest (holds-text h (wasSpoiled h p) refl is) (record { channel = same .channel; field = same .field }))
 
-  abbrev said : ControlCode
-  said = commandOf (stripped (p .0)) (stripped (p .1))
+  abbrev heardCode : ControlCode
+  heardCode = commandOf (stripped (p .0)) (stripped (p .1))
 
-  is-command : isCommandPair p ≡ true → IsCommand p said
+  is-command : isCommandPair p ≡ true → IsCommand p heardCode
   is-command is = (code.Nul, read-as-command (p .0) (p .1) (parity .0) (parity .1) is)
 
   -- the state that a skipped repeat leaves
@@ -107,20 +107,20 @@ module _ (p : Pair) (ps : List Pair) (odd : isOddPair p ≡ true) (go : Continue
   skipped s = state last.Absent (s .«last_channel») (s .«last_received_field»)
 
   -- a command that acts for both leaves the same channel and field
-  acted-same : (s t : Cea608State) → Same s t → Same (acts s p said .1) (acts t p said .1)
-  acted-same s t same = record { channel = refl; field = ap (fieldAfter (said .field)) (same .field) }
+  acted-same : (s t : Cea608State) → Same s t → Same (acts s p heardCode .1) (acts t p heardCode .1)
+  acted-same s t same = record { channel = refl; field = ap (fieldAfter (heardCode .field)) (same .field) }
 
   -- a copy that is not the last pair acts, and the rest of the line follows
-  acts-heard : (s t : Cea608State) (qs : List Pair) → isCommandPair p ≡ true → isLast p (s .«last_data») ≡ false → Agrees (acts s p said .1) (acts t p said .1) qs ps → Agrees s t (p ∷ qs) (p ∷ ps)
+  acts-heard : (s t : Cea608State) (qs : List Pair) → isCommandPair p ≡ true → isLast p (s .«last_data») ≡ false → Agrees (acts s p heardCode .1) (acts t p heardCode .1) qs ps → Agrees s t (p ∷ qs) (p ∷ ps)
   acts-heard s t qs is other a =
-      heard-in-front s t _ _ (acts s p said .0) p p qs ps (command-acts s p said (is-command is) other)
-      (command-once t p said (is-command is)) a
+      heard-in-front s t _ _ (acts s p heardCode .0) p p qs ps (command-acts s p heardCode (is-command is) other)
+      (command-once t p heardCode (is-command is)) a
 
   -- after a first copy that acted: its repeat is skipped, or corrupted
   second-after-acting : (s t : Cea608State) (qs : List Pair) → isCommandPair p ≡ true → Same s t → s .«last_data» ≡ last.Was p → OneByOne none (p ∷ doubled ps) qs → Agrees s t qs ps
   second-after-acting s t qs is same holds (one.arrives {qs = qs′} rest) =
       silent-in-front s t (skipped s) p qs′ ps
-      (repeat-is-skipped s p said (is-command is) (ap (isLast p) holds ∙ last-is-last p))
+      (repeat-is-skipped s p heardCode (is-command is) (ap (isLast p) holds ∙ last-is-last p))
       (go none qs′ (skipped s) t rest refl (record { channel = same .channel; field = same .field }))
   second-after-acting s t qs is same holds (one.is-spoiled {q = q} {qs = qs′} c w even rest) =
       hit-in-front s t q qs′ ps even (go (some p) qs′ s t rest holds same)
@@ -138,15 +138,15 @@ module _ (p : Pair) (ps : List Pair) (odd : isOddPair p ≡ true) (go : Continue
   command-heard : (h : Option Pair) (qs : List Pair) (s t : Cea608State) (hit : Bool) → wasSpoiled h p ≡ hit → isCommandPair p ≡ true → OneByOne h (p ∷ p ∷ doubled ps) qs → Ready h (s .«last_data») → Same s t → Agrees s t qs (p ∷ ps)
   command-heard h qs s t false w is (one.arrives {qs = qs′} rest) ready same =
       let first = subst (λ (b : Bool). OneByOne (cond b h none) (p ∷ doubled ps) qs′) w rest in
-      let other = repeat-is-told h (s .«last_data») p said (is-command is) ready ∙ w in
+      let other = repeat-is-told h (s .«last_data») p heardCode (is-command is) ready ∙ w in
       acts-heard s t qs′ is other (second-after-acting _ _ qs′ is (acted-same s t same) refl first)
   command-heard h qs s t true w is (one.arrives {qs = qs′} rest) ready same =
       let on = subst (λ (b : Bool). OneByOne (cond b h none) (p ∷ doubled ps) qs′) w rest in
-      let again = repeat-is-told h (s .«last_data») p said (is-command is) ready ∙ w in
-      silent-in-front s t (skipped s) p qs′ (p ∷ ps) (repeat-is-skipped s p said (is-command is) again)
+      let again = repeat-is-told h (s .«last_data») p heardCode (is-command is) ready ∙ w in
+      silent-in-front s t (skipped s) p qs′ (p ∷ ps) (repeat-is-skipped s p heardCode (is-command is) again)
       (second-acts h (skipped s) t qs′ is (record { channel = same .channel; field = same .field }) w refl on)
   command-heard h qs s t hit w is (one.is-spoiled {q = q} {qs = qs′} c fine even rest) ready same =
-      let other = repeat-is-told h (s .«last_data») p said (is-command is) ready ∙ fine in
+      let other = repeat-is-told h (s .«last_data») p heardCode (is-command is) ready ∙ fine in
       hit-in-front s t q qs′ (p ∷ ps) even (second-acts (some p) s t qs′ is same (same-itself p) other rest)
 
   pair-heard : (t : Bool) → isCommandPair p ≡ t → Continues (p ∷ ps)

@@ -3,7 +3,6 @@
 -- Assumes nothing.
 use mathlib.Core.Bool.{Bool, true, false, cond}
 use mathlib.Core.List.{List, [], _∷_, _++_, append-assoc, append-nil}
-use mathlib.Core.Option.{Option, none, some}
 use mathlib.Core.Path.{_≡_, refl, ap, sym, subst, _∙_}
 use Rattle.code.proofs.Written.{SentPair}
 use Rattle.code.specs.Outcome.{Outcome, answer}
@@ -16,66 +15,67 @@ use Rattle.queue.specs.Ring.{popRing}
 use Rattle.queue.specs.Ring as queue
 use Rattle.queue.specs.declared.ring.Queue.{Queue}
 use Rattle.sender.proofs.Refines.{push-good, pushed-as, queue-formed, send-good, send-refines}
-use Rattle.agreement.specs.Agreement.{Act, queueing, sending, afterActs, given, popped, queuePairs, sentBy}
+use Rattle.agreement.specs.Agreement.{Act, queueing, sending, afterActs, given, fromQueue, queuePairs, sentBy}
 use Rattle.agreement.specs.Doubled.{doubled}
 use Rattle.sender.specs.Good.{Good}
 use Rattle.agreement.specs.OneByOne.{AllOdd}
-use Rattle.sender.specs.Sender.{owedIn, pushSender, sendSender, view}
-use Rattle.sender.specs.Sending.{Sending, repeatOf, send, sendOwed, stillOwed}
+use Rattle.sender.specs.Sender.{pushSender, sendSender, view}
+use Rattle.sender.specs.Sending.{Sending, repeatsAfter, send, sendOwed, stillOwed}
 use Rattle.sender.specs.declared.sender.Owed.{Owed}
+use Rattle.sender.specs.declared.sender.Owed.the-variants as owed
 use Rattle.sender.specs.declared.sender.Sender.{Sender}
 
 -- a well-formed queue gives its pair
-pub popped-as : (q : Queue) → queue.wellFormed q ≡ true → popRing q .0 ≡ answer (pop (queue.view q) .pair)
+pub pair-of-queue : (q : Queue) → queue.wellFormed q ≡ true → popRing q .0 ≡ answer (pop (queue.view q) .pair)
 unfolding popRing
-popped-as q e = rw e refl
+pair-of-queue q e = rw e refl
 
 -- a pair of the queue, and what is owed of it
-twice : (p : Pair) (ps : List Pair) (t : Bool) → isCommandPair p ≡ t → p ∷ (stillOwed (repeatOf p) ++ doubled ps) ≡ doubled (p ∷ ps)
+twice : (p : Pair) (ps : List Pair) (t : Bool) → isCommandPair p ≡ t → p ∷ (stillOwed (repeatsAfter p .owed) ++ doubled ps) ≡ doubled (p ∷ ps)
 twice p ps true e = rw e refl
 twice p ps false e = rw e refl
 
 -- one send before what is sent later
-one-send : (o : Option Pair) (q : Queue) (later ps : List Pair) → queue.wellFormed q ≡ true → later ≡ stillOwed (sendOwed o (queue.view q) .next .owed) ++ doubled ps → sendOwed o (queue.view q) .pair ∷ later ≡ stillOwed o ++ doubled (popped o q ++ ps)
-one-send (some p) q later ps formed e = ap (λ (l : List Pair). p ∷ l) e
-one-send none q later ps formed e =
+one-send : (o : Owed) (q : Queue) (later ps : List Pair) → queue.wellFormed q ≡ true → later ≡ stillOwed (sendOwed o (queue.view q) .next .repeats .owed) ++ doubled ps → sendOwed o (queue.view q) .pair ∷ later ≡ stillOwed o ++ doubled (fromQueue o q ++ ps)
+one-send (owed.Repeat p) q later ps formed e = ap (λ (l : List Pair). p ∷ l) e
+one-send owed.Absent q later ps formed e =
     let p = pop (queue.view q) .pair in
     ap (λ (l : List Pair). p ∷ l) e
     ∙ twice p ps (isCommandPair p) refl
-    ∙ ap (λ (o : Outcome Pair). doubled (given o ++ ps)) (sym (popped-as q formed))
+    ∙ ap (λ (o : Outcome Pair). doubled (given o ++ ps)) (sym (pair-of-queue q formed))
 
 -- in any run of acts: what is sent, then what is still owed, is what was owed, then the queue's pairs doubled
-pub sent-is-doubled : (acts : List Act) (s : Sender) → Good s → sentBy acts s ++ stillOwed (owedIn (afterActs acts s .owed)) ≡ stillOwed (owedIn (s .owed)) ++ doubled (queuePairs acts s)
+pub sent-is-doubled : (acts : List Act) (s : Sender) → Good s → sentBy acts s ++ stillOwed (afterActs acts s .repeats .owed) ≡ stillOwed (s .repeats .owed) ++ doubled (queuePairs acts s)
 unfolding send
-sent-is-doubled [] s g = sym (append-nil (stillOwed (owedIn (s .owed))))
+sent-is-doubled [] s g = sym (append-nil (stillOwed (s .repeats .owed)))
 sent-is-doubled (queueing c ∷ acts) s g =
     sent-is-doubled acts (pushSender s c .1) (push-good s c g)
-    ∙ ap (λ (o : Owed). stillOwed (owedIn o) ++ doubled (queuePairs acts (pushSender s c .1))) (ap (λ (r : Outcome Unit × Sender). r .1 .owed) (pushed-as s c (g .formed)))
+    ∙ ap (λ (o : Owed). stillOwed o ++ doubled (queuePairs acts (pushSender s c .1))) (ap (λ (r : Outcome Unit × Sender). r .1 .repeats .owed) (pushed-as s c (g .formed)))
 sent-is-doubled (sending ∷ acts) s g =
     let next = sendSender s .1 in
     let told = send-refines s g in
-    let later = sentBy acts next ++ stillOwed (owedIn (afterActs acts next .owed)) in
-    append-assoc (given (sendSender s .0)) (sentBy acts next) (stillOwed (owedIn (afterActs acts next .owed)))
+    let later = sentBy acts next ++ stillOwed (afterActs acts next .repeats .owed) in
+    append-assoc (given (sendSender s .0)) (sentBy acts next) (stillOwed (afterActs acts next .repeats .owed))
     ∙ ap (λ (o : Outcome Pair). given o ++ later) (told .0)
-    ∙ one-send (owedIn (s .owed)) (s .queue) later (queuePairs acts next) (queue-formed s (g .formed))
+    ∙ one-send (s .repeats .owed) (s .queue) later (queuePairs acts next) (queue-formed s (g .formed))
     (sent-is-doubled acts next (send-good s g)
-    ∙ ap (λ (v : Sending). stillOwed (v .owed) ++ doubled (queuePairs acts next)) (told .1))
+    ∙ ap (λ (v : Sending). stillOwed (v .repeats .owed) ++ doubled (queuePairs acts next)) (told .1))
 
 -- every pair of the queue has odd parity, and so has every pair that is sent
 sent-is-odd : (p : Pair) → SentPair p → isOddPair p ≡ true
 sent-is-odd p s = rw (s .first .odd, s .second .odd) refl
 
-popped-odd : (o : Option Pair) (q : Queue) (ps : List Pair) → queue.wellFormed q ≡ true → AllOdd ps → AllOdd (popped o q ++ ps)
-popped-odd (some p) q ps formed all = all
-popped-odd none q ps formed all =
-    subst (λ (o : Outcome Pair). AllOdd (given o ++ ps)) (sym (popped-as q formed))
+popped-odd : (o : Owed) (q : Queue) (ps : List Pair) → queue.wellFormed q ≡ true → AllOdd ps → AllOdd (fromQueue o q ++ ps)
+popped-odd (owed.Repeat p) q ps formed all = all
+popped-odd owed.Absent q ps formed all =
+    subst (λ (o : Outcome Pair). AllOdd (given o ++ ps)) (sym (pair-of-queue q formed))
     (sent-is-odd (pop (queue.view q) .pair) (popped-is-sent (queue.view q) (good-fits q formed)), all)
 
 pub queue-pairs-are-odd : (acts : List Act) (s : Sender) → Good s → AllOdd (queuePairs acts s)
 queue-pairs-are-odd [] s g = tt
 queue-pairs-are-odd (queueing c ∷ acts) s g = queue-pairs-are-odd acts (pushSender s c .1) (push-good s c g)
 queue-pairs-are-odd (sending ∷ acts) s g =
-    popped-odd (owedIn (s .owed)) (s .queue) (queuePairs acts (sendSender s .1)) (queue-formed s (g .formed))
+    popped-odd (s .repeats .owed) (s .queue) (queuePairs acts (sendSender s .1)) (queue-formed s (g .formed))
     (queue-pairs-are-odd acts (sendSender s .1) (send-good s g))
 
 doubled-odd : (p : Pair) (ps : List Pair) (t : Bool) → isOddPair p ≡ true → AllOdd ps → AllOdd (cond t (p ∷ p ∷ ps) (p ∷ ps))

@@ -10,7 +10,7 @@ use Rattle.code.specs.Outcome.{Outcome}
 use Rattle.code.specs.declared.pair.Pair.{Pair}
 use Rattle.agreement.specs.Agreement.{Act, sending, afterActs, given, sentBy}
 use Rattle.sender.proofs.Refines.{send-good, send-refines}
-use Rattle.sender.specs.Drain.{drainedPairs, sendTimes}
+use Rattle.sender.specs.Drain.{drainedPairs, sendSenderTimes}
 use Rattle.sender.specs.Good.{Good}
 use Rattle.sender.specs.Sender.{sendSender, view}
 use Rattle.sender.specs.Sending.{isIdle, send}
@@ -33,6 +33,6 @@ drained-pairs-are-sent (suc limit) (suc (suc room)) s g =
         let here = ap (drainedPairs limit room) (sent .1) in
         ap₂ (λ (l : List Pair) (o : Outcome Pair). given o ++ l) (sym here ∙ later ∙ ap (λ (l : List Pair). sentBy (justSends (length l)) (sendSender s .1)) here) (sym (sent .0))
 
-pub drained-state-is-theirs : (n : ℕ) (s : Sender) → sendTimes n s ≡ afterActs (justSends n) s
+pub drained-state-is-theirs : (n : ℕ) (s : Sender) → sendSenderTimes n s ≡ afterActs (justSends n) s
 drained-state-is-theirs zero s = refl
 drained-state-is-theirs (suc n) s = drained-state-is-theirs n (sendSender s .1)

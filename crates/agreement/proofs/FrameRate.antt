@@ -100,7 +100,7 @@ module _ (s t : Cea608State) (p : Pair) (a : Alike s t) where
 
 -- padding gives no event and leaves channel and field
 no-text : (ch : LastChannel) → textFor ch code.Nul code.Nul ≡ none
-no-text channel.Unknown = refl
+no-text channel.Absent = refl
 no-text (channel.Known ch) = refl
 
 pub padding-step : (s : Cea608State) → step s padding ≡ (answer none, state (last.Was padding) (s .«last_channel») (s .«last_received_field»))

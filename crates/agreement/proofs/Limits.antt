@@ -24,6 +24,7 @@ use Rattle.code.specs.declared.pair.Pair.{Pair}
 use Rattle.event.specs.declared.event.Cea608.{Cea608}
 use Rattle.event.specs.declared.event.Cea608.the-variants as event
 use Rattle.event.specs.declared.mode.Mode.the-variants as mode
+use Rattle.queue.specs.Number.{codeOf}
 use Rattle.queue.specs.Queue.{admit, pairOf, pop}
 use Rattle.queue.specs.Queueable.{queueable}
 use Rattle.queue.specs.Ring.{popRing, pushRing}
@@ -31,7 +32,7 @@ use Rattle.queue.specs.Ring as ring
 use Rattle.receiver.specs.Reading.{answers, events, readOnce}
 use Rattle.receiver.specs.Receiver.{fresh}
 use Rattle.agreement.proofs.OneByOne.{one-by-one-is-a-line}
-use Rattle.agreement.specs.Agreement.{Act, queueing, sending, Agreement, Carried, EndsIdle, Line, queuePairs, refusal, sentBy}
+use Rattle.agreement.specs.Agreement.{Act, queueing, sending, Agreement, Carried, EndsIdle, Line, queuePairs, refusalNumber, sentBy}
 use Rattle.agreement.specs.Agreement as agreed
 use Rattle.agreement.specs.OneByOne as one
 use Rattle.agreement.specs.Pairs.{carriageReturn, hi, rollUp2}
@@ -60,12 +61,12 @@ abbrev line : List Pair
 line = rollUp2 ∷ rollUp2 ∷ carriageReturn ∷ carriageReturn ∷ hi ∷ []
 
 pub what-is-sent : (sentBy programme freshSender ≡ line) × (queuePairs programme freshSender ≡ rollUp2 ∷ carriageReturn ∷ hi ∷ []) × EndsIdle programme
-unfolding ones onesIn writeCode inDomain queueable admit pairOf pop pushRing popRing ring.wellFormed wellFormed pushSender send sendSender idleSender
+unfolding ones onesIn writeCode inDomain queueable admit pairOf codeOf pop pushRing popRing ring.wellFormed wellFormed pushSender send sendSender idleSender
 what-is-sent = (refl, refl, refl)
 
 -- the codes of each pair
 pub what-it-is-made-of : packed programme freshSender ≡ record { pair = rollUp2; codes = command RollUp2 ∷ [] } ∷ record { pair = carriageReturn; codes = command CarriageReturn ∷ [] } ∷ record { pair = hi; codes = code.Letter (letterAt 0x28) ∷ code.Letter (letterAt 0x49) ∷ [] } ∷ []
-unfolding ones onesIn writeCode inDomain queueable admit pairOf pop pushRing popRing ring.wellFormed wellFormed pushSender send sendSender
+unfolding ones onesIn writeCode inDomain queueable admit pairOf codeOf pop pushRing popRing ring.wellFormed wellFormed pushSender send sendSender
 what-it-is-made-of = refl
 
 pub what-is-meant : events (readOnce fresh (rollUp2 ∷ carriageReturn ∷ hi ∷ [])) ≡ modeEvent ∷ returnEvent ∷ hiEvent ∷ []
@@ -86,7 +87,7 @@ pub one-corrupted-each-is-decoded : events (answers fresh oneCorruptedEach) ≡ 
 unfolding readPair ones onesIn standard
 one-corrupted-each-is-decoded = refl
 
-pub one-corrupted-each-is-refused : map refusal (answers fresh oneCorruptedEach) ≡ 1 ∷ 0 ∷ 0 ∷ 1 ∷ 0 ∷ []
+pub one-corrupted-each-is-refused : map refusalNumber (answers fresh oneCorruptedEach) ≡ 1 ∷ 0 ∷ 0 ∷ 1 ∷ 0 ∷ []
 unfolding readPair ones onesIn standard
 one-corrupted-each-is-refused = refl
 
@@ -129,7 +130,7 @@ halfACommand =
     queueing (code.Unknown 0x14) ∷ queueing (code.Letter (letterAt 0x21)) ∷ sending ∷ sending ∷ []
 
 pub half-a-command-is-sent-twice : (packed halfACommand freshSender ≡ record { pair = pair 0x94 0xC1; codes = code.Unknown 0x14 ∷ code.Letter (letterAt 0x21) ∷ [] } ∷ []) × (sentBy halfACommand freshSender ≡ pair 0x94 0xC1 ∷ pair 0x94 0xC1 ∷ [])
-unfolding ones onesIn writeCode inDomain queueable admit pairOf pop pushRing popRing ring.wellFormed wellFormed pushSender send sendSender
+unfolding ones onesIn writeCode inDomain queueable admit pairOf codeOf pop pushRing popRing ring.wellFormed wellFormed pushSender send sendSender
 half-a-command-is-sent-twice = (refl, refl)
 
 -- a carriage return queued twice is a stretch of four, and two corrupted copies lose one of the two scrolls
@@ -138,7 +139,7 @@ twoReturns =
     queueing (command CarriageReturn) ∷ queueing (command CarriageReturn) ∷ sending ∷ sending ∷ sending ∷ sending ∷ []
 
 pub a-stretch-of-four : (sentBy twoReturns freshSender ≡ carriageReturn ∷ carriageReturn ∷ carriageReturn ∷ carriageReturn ∷ []) × (queuePairs twoReturns freshSender ≡ carriageReturn ∷ carriageReturn ∷ [])
-unfolding ones onesIn writeCode inDomain queueable admit pairOf pop pushRing popRing ring.wellFormed wellFormed pushSender send sendSender
+unfolding ones onesIn writeCode inDomain queueable admit pairOf codeOf pop pushRing popRing ring.wellFormed wellFormed pushSender send sendSender
 a-stretch-of-four = (refl, refl)
 
 pub two-corrupted-of-four-lose-a-command :

@@ -3,7 +3,6 @@
 -- Assumes nothing.
 use mathlib.Core.Bool.{Bool, true, cond}
 use mathlib.Core.List.{List, [], _∷_, _++_, append-assoc, append-nil}
-use mathlib.Core.Option.{Option, none, some}
 use mathlib.Core.Path.{_≡_, refl, ap, ap₂, sym, _∙_}
 use Rattle.code.specs.Outcome.{Outcome, answer, refused}
 use Rattle.code.specs.Read.{isCommandPair}
@@ -20,11 +19,13 @@ use Rattle.queue.specs.declared.ring.Queue.{Queue}
 use Rattle.sender.proofs.Order.{send-takes-from-the-front}
 use Rattle.sender.proofs.Refines.{fresh-good, push-good, push-refines, queue-formed, send-good, send-refines}
 use Rattle.sender.specs.Good.{Good}
-use Rattle.sender.specs.Sender.{freshSender, owedIn, pushSender, sendSender, view}
+use Rattle.sender.specs.Sender.{freshSender, pushSender, sendSender, view}
 use Rattle.sender.specs.Sending.{Sending, send, sendOwed}
+use Rattle.sender.specs.declared.sender.Owed.{Owed}
+use Rattle.sender.specs.declared.sender.Owed.the-variants as owed
 use Rattle.sender.specs.declared.sender.Sender.{Sender}
-use Rattle.agreement.proofs.Doubled.{popped-as, sent-is-doubled}
-use Rattle.agreement.specs.Agreement.{Act, queueing, sending, afterActs, given, popped, queuePairs}
+use Rattle.agreement.proofs.Doubled.{pair-of-queue, sent-is-doubled}
+use Rattle.agreement.specs.Agreement.{Act, queueing, sending, afterActs, given, fromQueue, queuePairs}
 use Rattle.agreement.specs.Doubled.{doubled}
 use Rattle.agreement.specs.QueuedCommands.{AllWellPacked, Packed, QueuedCommandsLaw, acceptedBy, codesIn, packed, packedBy, packedOf, pairsIn, sentByCodes}
 
@@ -33,25 +34,25 @@ pairs-by : (o : Outcome Pair) (taken : List Code) (ms : List Packed) → pairsIn
 pairs-by (answer p) taken ms = refl
 pairs-by (refused n) taken ms = refl
 
-pairs-of-send : (o : Option Pair) (q : Queue) (ms : List Packed) → pairsIn (packedBy o q ++ ms) ≡ popped o q ++ pairsIn ms
-pairs-of-send (some p) q ms = refl
-pairs-of-send none q ms = pairs-by (popRing q .0) (takenBy q) ms
+pairs-of-send : (o : Owed) (q : Queue) (ms : List Packed) → pairsIn (packedBy o q ++ ms) ≡ fromQueue o q ++ pairsIn ms
+pairs-of-send (owed.Repeat p) q ms = refl
+pairs-of-send owed.Absent q ms = pairs-by (popRing q .0) (takenBy q) ms
 
 pairs-are-the-queues : (acts : List Act) (s : Sender) → pairsIn (packed acts s) ≡ queuePairs acts s
 pairs-are-the-queues [] s = refl
 pairs-are-the-queues (queueing c ∷ acts) s = pairs-are-the-queues acts (pushSender s c .1)
 pairs-are-the-queues (sending ∷ acts) s =
-    pairs-of-send (owedIn (s .owed)) (s .queue) (packed acts (sendSender s .1))
-    ∙ ap (λ (l : List Pair). popped (owedIn (s .owed)) (s .queue) ++ l) (pairs-are-the-queues acts (sendSender s .1))
+    pairs-of-send (s .repeats .owed) (s .queue) (packed acts (sendSender s .1))
+    ∙ ap (λ (l : List Pair). fromQueue (s .repeats .owed) (s .queue) ++ l) (pairs-are-the-queues acts (sendSender s .1))
 
 -- a pop of a well-formed queue makes one pair, of what it takes
-one-packed : (q : Queue) → queue.wellFormed q ≡ true → packedBy none q ≡ record { pair = pop (queue.view q) .pair; codes = pop (queue.view q) .took } ∷ []
+one-packed : (q : Queue) → queue.wellFormed q ≡ true → packedBy owed.Absent q ≡ record { pair = pop (queue.view q) .pair; codes = pop (queue.view q) .took } ∷ []
 one-packed q formed =
-    ap₂ packedOf (popped-as q formed) (ap (λ (t : Bool). cond t (pop (queue.view q) .took) []) formed)
+    ap₂ packedOf (pair-of-queue q formed) (ap (λ (t : Bool). cond t (pop (queue.view q) .took) []) formed)
 
-send-well-packed : (o : Option Pair) (q : Queue) (ms : List Packed) → queue.wellFormed q ≡ true → AllWellPacked ms → AllWellPacked (packedBy o q ++ ms)
-send-well-packed (some p) q ms formed all = all
-send-well-packed none q ms formed all =
+send-well-packed : (o : Owed) (q : Queue) (ms : List Packed) → queue.wellFormed q ≡ true → AllWellPacked ms → AllWellPacked (packedBy o q ++ ms)
+send-well-packed (owed.Repeat p) q ms formed all = all
+send-well-packed owed.Absent q ms formed all =
     let fits = good-fits q formed in
     rw (one-packed q formed)
     (record { is-made-of = made-of (queue.view q) fits; command = popped-is-a-command (queue.view q) fits }, all)
@@ -60,13 +61,13 @@ all-well-packed : (acts : List Act) (s : Sender) → Good s → AllWellPacked (p
 all-well-packed [] s g = tt
 all-well-packed (queueing c ∷ acts) s g = all-well-packed acts (pushSender s c .1) (push-good s c g)
 all-well-packed (sending ∷ acts) s g =
-    send-well-packed (owedIn (s .owed)) (s .queue) (packed acts (sendSender s .1)) (queue-formed s (g .formed))
+    send-well-packed (s .repeats .owed) (s .queue) (packed acts (sendSender s .1)) (queue-formed s (g .formed))
     (all-well-packed acts (sendSender s .1) (send-good s g))
 
 -- in any run of acts: the codes of the pairs, then those still inside, are those that were inside, then those accepted
-codes-of-send : (o : Option Pair) (q : Queue) (ms : List Packed) → queue.wellFormed q ≡ true → codesIn (packedBy o q ++ ms) ≡ sendOwed o (queue.view q) .took ++ codesIn ms
-codes-of-send (some p) q ms formed = refl
-codes-of-send none q ms formed = ap (λ (l : List Packed). codesIn (l ++ ms)) (one-packed q formed)
+codes-of-send : (o : Owed) (q : Queue) (ms : List Packed) → queue.wellFormed q ≡ true → codesIn (packedBy o q ++ ms) ≡ sendOwed o (queue.view q) .took ++ codesIn ms
+codes-of-send (owed.Repeat p) q ms formed = refl
+codes-of-send owed.Absent q ms formed = ap (λ (l : List Packed). codesIn (l ++ ms)) (one-packed q formed)
 
 codes-in-order : (acts : List Act) (s : Sender) → Good s → codesIn (packed acts s) ++ inside (view (afterActs acts s) .queue) ≡ inside (view s .queue) ++ acceptedBy acts s
 unfolding send
@@ -85,7 +86,7 @@ codes-in-order (sending ∷ acts) s g =
     let taken = send (view s) .took in
     let left = inside (view (afterActs acts next) .queue) in
     let later = acceptedBy acts next in
-    ap (λ (l : List Code). l ++ left) (codes-of-send (owedIn (s .owed)) (s .queue) (packed acts next) (queue-formed s (g .formed)))
+    ap (λ (l : List Code). l ++ left) (codes-of-send (s .repeats .owed) (s .queue) (packed acts next) (queue-formed s (g .formed)))
     ∙ append-assoc taken (codesIn (packed acts next)) left
     ∙ ap (λ (l : List Code). taken ++ l) (codes-in-order acts next (send-good s g))
     ∙ sym (append-assoc taken (inside (view next .queue)) later)

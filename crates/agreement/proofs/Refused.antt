@@ -6,7 +6,7 @@ use mathlib.Core.Option.{Option}
 use mathlib.Core.Path.{_≡_, refl, ap, ap₂, sym, _∙_}
 use Prim.Native.Nat.{ℕ}
 use Rattle.code.specs.Outcome.{Outcome, answer, refused}
-use Rattle.code.specs.Read.{isOddPair}
+use Rattle.code.specs.Read.{isOddPair, samePair}
 use Rattle.code.specs.declared.pair.Pair.{Pair}
 use Rattle.event.specs.declared.event.Cea608.{Cea608}
 use Rattle.receiver.proofs.Step.{even-is-refused-1, odd-is-not-refused}
@@ -14,25 +14,25 @@ use Rattle.receiver.specs.Reading.{answers}
 use Rattle.receiver.specs.Receiver.{step}
 use Rattle.receiver.specs.declared.state.Cea608State.{Cea608State}
 use Rattle.agreement.proofs.OneByOne.{same-itself, spoiled-is-another}
-use Rattle.agreement.specs.Agreement.{Carried, refusal, samePair, spoiledPlaces}
+use Rattle.agreement.specs.Agreement.{Carried, refusalNumber, spoiledPlaces}
 use Rattle.agreement.specs.Agreement as line
 use Rattle.agreement.specs.OneByOne.{AllOdd}
 
-heard : (o : Outcome (Option Cea608)) → ((n : ℕ) → o ≡ refused n → ⊥) → refusal o ≡ 0
+heard : (o : Outcome (Option Cea608)) → ((n : ℕ) → o ≡ refused n → ⊥) → refusalNumber o ≡ 0
 heard (answer e) h = refl
 heard (refused n) h = absurd (h n refl)
 
 -- a pair that arrives as it was sent is not refused
-arrived : (s : Cea608State) (p : Pair) → isOddPair p ≡ true → refusal (step s p .0) ≡ cond (samePair p p) 0 1
+arrived : (s : Cea608State) (p : Pair) → isOddPair p ≡ true → refusalNumber (step s p .0) ≡ cond (samePair p p) 0 1
 arrived s p odd =
     heard (step s p .0) (λ (n : ℕ) (e : step s p .0 ≡ refused n). odd-is-not-refused s p n odd e)
     ∙ sym (ap (λ (t : Bool). cond t 0 1) (same-itself p))
 
 -- and one that fails parity is not the one that was sent, and is refused
-hit : (s : Cea608State) (p q : Pair) → isOddPair p ≡ true → isOddPair q ≡ false → refusal (step s q .0) ≡ cond (samePair p q) 0 1
+hit : (s : Cea608State) (p q : Pair) → isOddPair p ≡ true → isOddPair q ≡ false → refusalNumber (step s q .0) ≡ cond (samePair p q) 0 1
 hit s p q odd even = rw (even-is-refused-1 s q even, spoiled-is-another p q odd even) refl
 
-pub the-corrupted-are-refused : (ps qs : List Pair) (s : Cea608State) → AllOdd ps → Carried ps qs → map refusal (answers s qs) ≡ spoiledPlaces ps qs
+pub the-corrupted-are-refused : (ps qs : List Pair) (s : Cea608State) → AllOdd ps → Carried ps qs → map refusalNumber (answers s qs) ≡ spoiledPlaces ps qs
 the-corrupted-are-refused ps qs s all line.ends = refl
 the-corrupted-are-refused ps qs s all (line.arrives {p = p} {ps = ps′} {qs = qs′} rest) =
     ap₂ _∷_ (arrived s p (all .0)) (the-corrupted-are-refused ps′ qs′ (step s p .1) (all .1) rest)

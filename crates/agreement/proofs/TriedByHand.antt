@@ -5,11 +5,12 @@ use mathlib.Core.Path.{_≡_, refl}
 use lib.Count.{ones, onesIn}
 use Rattle.code.specs.Read.{readPair}
 use Rattle.code.specs.Write.{inDomain, writeCode}
+use Rattle.queue.specs.Number.{codeOf}
 use Rattle.queue.specs.Queue.{admit, pairOf, pop}
 use Rattle.queue.specs.Queueable.{queueable}
 use Rattle.queue.specs.Ring.{popRing, pushRing, wellFormed}
 use Rattle.agreement.specs.TriedByHand.{pairsTried, try, whatTheyGive}
 
 pub tried-by-hand : map try pairsTried ≡ whatTheyGive
-unfolding readPair ones onesIn writeCode inDomain queueable admit pairOf pop pushRing popRing wellFormed
+unfolding readPair ones onesIn writeCode inDomain queueable admit pairOf codeOf pop pushRing popRing wellFormed
 tried-by-hand = refl

@@ -1,14 +1,13 @@
 -- The agreement: demand 3 of the customer's letter, its sentences in their order. `DemandThree` at the end is the demand;
 -- `agreement` in proofs/Agreement.antt proves it. Every call in it is the definition to which a promise binds the code.
 use Prim.Native.Nat.{ℕ, _+_, _≤_}
-use mathlib.Core.Bool.{Bool, true, false, cond, _&&_}
+use mathlib.Core.Bool.{true, false, cond}
 use mathlib.Core.List.{List, [], _∷_, _++_, map}
-use mathlib.Core.Option.{Option, none, some}
+use mathlib.Core.Option.{Option}
 use mathlib.Core.Path.{_≡_}
-use lib.Dec.{eqb}
 use lib.ListN.{drop, length, replicate, take}
 use Rattle.code.specs.Outcome.{Outcome, answer, refused}
-use Rattle.code.specs.Read.{isCommandPair, isOddPair}
+use Rattle.code.specs.Read.{isCommandPair, isOddPair, samePair}
 use Rattle.code.specs.declared.code.Code.{Code}
 use Rattle.code.specs.declared.pair.Pair.{Pair}
 use Rattle.event.specs.declared.event.Cea608.{Cea608}
@@ -16,7 +15,9 @@ use Rattle.queue.specs.Ring.{popRing}
 use Rattle.queue.specs.declared.ring.Queue.{Queue}
 use Rattle.receiver.specs.Reading.{after, afterOnce, answers, events, readOnce}
 use Rattle.receiver.specs.Receiver.{fresh}
-use Rattle.sender.specs.Sender.{freshSender, idleSender, owedIn, pushSender, sendSender}
+use Rattle.sender.specs.Sender.{freshSender, idleSender, pushSender, sendSender}
+use Rattle.sender.specs.declared.sender.Owed.{Owed}
+use Rattle.sender.specs.declared.sender.Owed.the-variants as owed
 use Rattle.sender.specs.declared.sender.Sender.{Sender}
 
 -- "Start with a fresh sender and a fresh receiver, never reset. Queue and send in any order, until nothing is queued and
@@ -50,17 +51,17 @@ sentBy [] s = []
 sentBy (a ∷ acts) s = sentIn a s ++ sentBy acts (acted a s)
 
 -- the queue's pairs: those that it gave, where no repeat was owed
-abbrev pub popped : Option Pair → Queue → List Pair
-popped (some p) q = []
-popped none q = given (popRing q .0)
+abbrev pub fromQueue : Owed → Queue → List Pair
+fromQueue (owed.Repeat p) q = []
+fromQueue owed.Absent q = given (popRing q .0)
 
-abbrev pub poppedIn : Act → Sender → List Pair
-poppedIn (queueing c) s = []
-poppedIn sending s = popped (owedIn (s .owed)) (s .queue)
+abbrev pub fromQueueIn : Act → Sender → List Pair
+fromQueueIn (queueing c) s = []
+fromQueueIn sending s = fromQueue (s .repeats .owed) (s .queue)
 
 abbrev pub queuePairs : List Act → Sender → List Pair
 queuePairs [] s = []
-queuePairs (a ∷ acts) s = poppedIn a s ++ queuePairs acts (acted a s)
+queuePairs (a ∷ acts) s = fromQueueIn a s ++ queuePairs acts (acted a s)
 
 -- "The line may spoil pairs so that parity shows it: no pair that is not a command, and at most one copy in each unbroken
 -- stretch of one command pair." Pair by pair: it arrives as it was sent or, if a command, with a byte of even parity.
@@ -70,9 +71,6 @@ pub data Carried : List Pair → List Pair → Type 0 where
   is-spoiled : {p q : Pair} {ps qs : List Pair} → isCommandPair p ≡ true → isOddPair q ≡ false → Carried ps qs → Carried (p ∷ ps) (q ∷ qs)
 
 -- 1 where a pair arrived as another, else 0
-abbrev pub samePair : Pair → Pair → Bool
-samePair p q = eqb (p .0) (q .0) && eqb (p .1) (q .1)
-
 abbrev pub spoiledPlaces : List Pair → List Pair → List ℕ
 spoiledPlaces (p ∷ ps) (q ∷ qs) = cond (samePair p q) 0 1 ∷ spoiledPlaces ps qs
 spoiledPlaces [] qs = []
@@ -92,9 +90,9 @@ pub record Line (sent arrived : List Pair) : Type 0 where
   pub stretches : OneHit sent arrived
 
 -- the number by which a pair was refused, else 0
-abbrev pub refusal : Outcome (Option Cea608) → ℕ
-refusal (answer e) = 0
-refusal (refused n) = n
+abbrev pub refusalNumber : Outcome (Option Cea608) → ℕ
+refusalNumber (answer e) = 0
+refusalNumber (refused n) = n
 
 -- "Then the receiver reports, in order, the events that the queue's pairs give when each is read once with no test for
 -- repeats, ends with the same channel and field, and refuses the spoiled pairs and no others."
@@ -102,8 +100,8 @@ pub record Agreement (acts : List Act) (arrived : List Pair) : Type 0 where
   pub same-events : events (answers fresh arrived) ≡ events (readOnce fresh (queuePairs acts freshSender))
   pub same-channel : after fresh arrived .«last_channel» ≡ afterOnce fresh (queuePairs acts freshSender) .«last_channel»
   pub same-field : after fresh arrived .«last_received_field» ≡ afterOnce fresh (queuePairs acts freshSender) .«last_received_field»
-  -- at each place 1, which is refusal 1, where the pair was corrupted, and 0 where it was not
-  pub refuses-the-spoiled : map refusal (answers fresh arrived) ≡ spoiledPlaces (sentBy acts freshSender) arrived
+  -- at each place 1, which is refusedBy 1, where the pair was corrupted, and 0 where it was not
+  pub refuses-the-spoiled : map refusalNumber (answers fresh arrived) ≡ spoiledPlaces (sentBy acts freshSender) arrived
 
 abbrev pub DemandThree : Type 0
 DemandThree = (acts : List Act) (arrived : List Pair) → EndsIdle acts → Line (sentBy acts freshSender) arrived → Agreement acts arrived

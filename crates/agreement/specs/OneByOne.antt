@@ -5,8 +5,7 @@ use mathlib.Core.List.{List, [], _∷_}
 use mathlib.Core.Option.{Option, none, some}
 use mathlib.Core.Path.{_≡_}
 use Rattle.code.specs.declared.pair.Pair.{Pair}
-use Rattle.code.specs.Read.{isCommandPair, isOddPair}
-use Rattle.agreement.specs.Agreement.{samePair}
+use Rattle.code.specs.Read.{isCommandPair, isOddPair, samePair}
 
 abbrev pub AllOdd : List Pair → Type 0
 AllOdd [] = Unit

@@ -2,7 +2,6 @@
 -- law; `queued-commands` in proofs/QueuedCommands.antt proves it.
 use mathlib.Core.Bool.{cond}
 use mathlib.Core.List.{List, [], _∷_, _++_}
-use mathlib.Core.Option.{Option, none, some}
 use mathlib.Core.Path.{_≡_}
 use Rattle.code.specs.Outcome.{Outcome, answer, refused}
 use Rattle.code.specs.Read.{isCommandPair}
@@ -11,10 +10,12 @@ use Rattle.code.specs.declared.pair.Pair.{Pair}
 use Rattle.queue.specs.Calls.{letIn, takenBy}
 use Rattle.queue.specs.Queue.{inside}
 use Rattle.queue.specs.Ring.{popRing}
-use Rattle.queue.specs.Sent.{MadeOf, makesCommand}
+use Rattle.queue.specs.Made.{MadeOf, makesCommand}
 use Rattle.queue.specs.declared.ring.Queue.{Queue}
-use Rattle.sender.specs.Sender.{freshSender, owedIn, pushSender, view}
+use Rattle.sender.specs.Sender.{freshSender, pushSender, view}
 use Rattle.sender.specs.Sending.{stillOwed}
+use Rattle.sender.specs.declared.sender.Owed.{Owed}
+use Rattle.sender.specs.declared.sender.Owed.the-variants as owed
 use Rattle.sender.specs.declared.sender.Sender.{Sender}
 use Rattle.agreement.specs.Agreement.{Act, queueing, sending, acted, afterActs, queuePairs, sentBy}
 
@@ -36,13 +37,13 @@ abbrev pub packedOf : Outcome Pair → List Code → List Packed
 packedOf (answer p) taken = record { pair = p; codes = taken } ∷ []
 packedOf (refused n) taken = []
 
-abbrev pub packedBy : Option Pair → Queue → List Packed
-packedBy (some p) q = []
-packedBy none q = packedOf (popRing q .0) (takenBy q)
+abbrev pub packedBy : Owed → Queue → List Packed
+packedBy (owed.Repeat p) q = []
+packedBy owed.Absent q = packedOf (popRing q .0) (takenBy q)
 
 abbrev pub packedIn : Act → Sender → List Packed
 packedIn (queueing c) s = []
-packedIn sending s = packedBy (owedIn (s .owed)) (s .queue)
+packedIn sending s = packedBy (s .repeats .owed) (s .queue)
 
 abbrev pub packed : List Act → Sender → List Packed
 packed [] s = []
@@ -76,7 +77,7 @@ pub record QueuedCommands (acts : List Act) : Type 0 where
   pub all-pairs : pairsIn (packed acts freshSender) ≡ queuePairs acts freshSender
   pub all-codes : codesIn (packed acts freshSender) ++ inside (view (afterActs acts freshSender) .queue) ≡ acceptedBy acts freshSender
   pub well-packed : AllWellPacked (packed acts freshSender)
-  pub sent-by-codes : sentBy acts freshSender ++ stillOwed (owedIn (afterActs acts freshSender .owed)) ≡ sentByCodes (packed acts freshSender)
+  pub sent-by-codes : sentBy acts freshSender ++ stillOwed (afterActs acts freshSender .repeats .owed) ≡ sentByCodes (packed acts freshSender)
 
 abbrev pub QueuedCommandsLaw : Type 0
 QueuedCommandsLaw = (acts : List Act) → QueuedCommands acts

@@ -24,7 +24,7 @@ use Rattle.queue.specs.Good.{Good}
 use Rattle.queue.specs.Progress.{popTimes, work}
 use Rattle.queue.specs.Queue.{Queued, count, pop}
 use Rattle.queue.specs.Ring.{countRing, popRing, view, wellFormed}
-use Rattle.queue.specs.Sent.{makesCommand, readsCommand}
+use Rattle.queue.specs.Made.{makesCommand, readsCommand}
 use Rattle.queue.specs.declared.ring.Queue.{Queue}
 
 -- an answer that is no refusal came from a well-formed state, and is the definition's

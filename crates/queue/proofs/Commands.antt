@@ -32,17 +32,17 @@ use Rattle.queue.proofs.Dressed.{dressed-exactly, queueable-is-in-domai
 use Rattle.queue.proofs.Sends.{Shaped, singles, two-bytes, pop-is-shaped, pop-sends-what-it-took}
 use Rattle.queue.specs.Calls.{Reply, listReplies, popping, pushing, toPop, toPush}
 use Rattle.queue.specs.Good.{Fit}
-use Rattle.queue.specs.Queue.{Queued, admit, byteOf, empty, inside, isNul, isSingle, mayWait, pairOf, pop, queued, sent}
+use Rattle.queue.specs.Queue.{Queued, admit, byteOf, empty, inside, isNul, isSingle, mayWait, pairOf, pop, queued, pairWritten}
 use Rattle.queue.specs.Queueable.{isAnswer, isQueueable, queueable}
 use Rattle.queue.specs.Ring.{allMayWait}
-use Rattle.queue.specs.Sent.{MadeOf, of-singles, of-two-bytes, hasTwoByteCode, isHalfCommand, makesCommand, pairFor, readsCommand}
+use Rattle.queue.specs.Made.{MadeOf, of-singles, of-two-bytes, hasTwoByteCode, isHalfCommand, makesCommand, pairFor, readsCommand}
 
 -- a code that may be queued goes out with a first byte of 10 to 1F exactly where it is one that is sent as a command
-says : (c : Code) (o : Outcome (Pair × ℕ)) → writeCode c ≡ o → isAnswer (settled o) ≡ true → isCommandPair (sent o) ≡ isCommandCode c
+says : (c : Code) (o : Outcome (Pair × ℕ)) → writeCode c ≡ o → isAnswer (settled o) ≡ true → isCommandPair (pairWritten o) ≡ isCommandCode c
 says c (answer x) e can = written-says-command c (x .0) (x .1) e
 says c (refused n) e can = absurd (true≢false (sym can))
 
-code-says : (c : Code) → isQueueable c ≡ true → isCommandPair (pairOf c) ≡ isCommandCode c
+pub code-says : (c : Code) → isQueueable c ≡ true → isCommandPair (pairOf c) ≡ isCommandCode c
 unfolding pairOf
 code-says c e = says c (writeCode c) refl (ap isAnswer (sym (domain-is-written c)) ∙ queueable-is-in-domain c e)
 

@@ -13,7 +13,7 @@ use Rattle.queue.proofs.Fit.{at-most-65}
 use Rattle.queue.proofs.Order.{pop-takes-from-the-front, push-puts-behind}
 use Rattle.queue.proofs.Refines.{count-refines, fresh-good, good-fits, pop-good, pop-refines, push-good, push-refines}
 use Rattle.queue.proofs.WellFormed.{formed}
-use Rattle.queue.specs.Calls.{Call, pushing, popping, counting, resetting, Reply, toPush, toPop, toCount, History, after, afterAll, begun, letIn, listReplies, onList, onRing, ringAfter, ringReplies, takenBy}
+use Rattle.queue.specs.Calls.{Call, pushing, popping, counting, resetting, Reply, toPush, toPop, toCount, History, recorded, recordedAll, begun, letIn, listReplies, onList, onRing, ringAfter, ringReplies, takenBy}
 use Rattle.queue.specs.Good.{Good}
 use Rattle.queue.specs.Queue.{Queued, count, inside, pop, push}
 use Rattle.queue.specs.Ring.{countRing, freshRing, view, wellFormed}
@@ -51,15 +51,15 @@ ring-answers-as-the-list (c ∷ cs) q g =
     ∙ ap (λ (r : Reply × Queued). r .0 ∷ listReplies cs (r .1)) (sym (call-agrees c q g))
 
 -- the ring of a history is the ring after its calls
-ring-of-call : (c : Call) (h : History) → after c h .ring ≡ onRing c (h .ring) .1
+ring-of-call : (c : Call) (h : History) → recorded c h .ring ≡ onRing c (h .ring) .1
 ring-of-call (pushing x) h = refl
 ring-of-call popping h = refl
 ring-of-call counting h = refl
 ring-of-call resetting h = refl
 
-pub ring-of-history : (cs : List Call) (h : History) → afterAll cs h .ring ≡ ringAfter cs (h .ring)
+pub ring-of-history : (cs : List Call) (h : History) → recordedAll cs h .ring ≡ ringAfter cs (h .ring)
 ring-of-history [] h = refl
-ring-of-history (c ∷ cs) h = ring-of-history cs (after c h) ∙ ap (ringAfter cs) (ring-of-call c h)
+ring-of-history (c ∷ cs) h = ring-of-history cs (recorded c h) ∙ ap (ringAfter cs) (ring-of-call c h)
 
 -- what every history keeps
 pub record Kept (h : History) : Type 0 where
@@ -69,7 +69,7 @@ pub record Kept (h : History) : Type 0 where
 pub begun-kept : (q : Queue) → Good q → Kept (begun q)
 begun-kept q g = record { good = g; order = refl }
 
-push-kept : (x : Code) (h : History) → Kept h → Kept (after (pushing x) h)
+push-kept : (x : Code) (h : History) → Kept h → Kept (recorded (pushing x) h)
 push-kept x h k =
     let q = h .ring in
     let seen-first = ap (λ (r : Outcome Unit × Queued). r .0) (push-refines q x (k .good)) in
@@ -86,7 +86,7 @@ push-kept x h k =
 taken-is : (q : Queue) → Good q → takenBy q ≡ pop (view q) .took
 taken-is q g = ap (λ (t : Bool). cond t (pop (view q) .took) []) (g .formed)
 
-pop-kept : (h : History) → Kept h → Kept (after popping h)
+pop-kept : (h : History) → Kept h → Kept (recorded popping h)
 pop-kept h k =
     let q = h .ring in
     let seen-next = ap (λ (r : Outcome Pair × Queued). r .1) (pop-refines q (k .good)) in
@@ -99,7 +99,7 @@ pop-kept h k =
           ∙ ap₂ (λ (l : List Code) (v : Queued). h .took ++ l ++ inside v) (sym (taken-is q (k .good))) (sym seen-next);
     }
 
-count-kept : (h : History) → Kept h → Kept (after counting h)
+count-kept : (h : History) → Kept h → Kept (recorded counting h)
 count-kept h k =
     let same = sym (count-same (h .ring) (k .good)) in
     record {
@@ -107,32 +107,32 @@ count-kept h k =
       order = k .order ∙ ap (λ (q : Queue). h .took ++ inside (view q)) same;
     }
 
-call-kept : (c : Call) (h : History) → Kept h → Kept (after c h)
+call-kept : (c : Call) (h : History) → Kept h → Kept (recorded c h)
 call-kept (pushing x) h k = push-kept x h k
 call-kept popping h k = pop-kept h k
 call-kept counting h k = count-kept h k
 call-kept resetting h k = record { good = fresh-good; order = refl }
 
-pub calls-kept : (cs : List Call) (h : History) → Kept h → Kept (afterAll cs h)
+pub calls-kept : (cs : List Call) (h : History) → Kept h → Kept (recordedAll cs h)
 calls-kept [] h k = k
-calls-kept (c ∷ cs) h k = calls-kept cs (after c h) (call-kept c h k)
+calls-kept (c ∷ cs) h k = calls-kept cs (recorded c h) (call-kept c h k)
 
 -- from a fresh queue on, in whatever order it is called: accepted is taken, then held, then waiting
-pub first-in-first-out : (cs : List Call) → afterAll cs (begun freshRing) .accepted ≡ afterAll cs (begun freshRing) .took ++ inside (view (afterAll cs (begun freshRing) .ring))
+pub first-in-first-out : (cs : List Call) → recordedAll cs (begun freshRing) .accepted ≡ recordedAll cs (begun freshRing) .took ++ inside (view (recordedAll cs (begun freshRing) .ring))
 first-in-first-out cs = calls-kept cs (begun freshRing) (begun-kept freshRing fresh-good) .order
 
 -- and from any well-formed state on, where what was inside counts as accepted
-pub first-in-first-out-from : (q : Queue) → Good q → (cs : List Call) → afterAll cs (begun q) .accepted ≡ afterAll cs (begun q) .took ++ inside (view (afterAll cs (begun q) .ring))
+pub first-in-first-out-from : (q : Queue) → Good q → (cs : List Call) → recordedAll cs (begun q) .accepted ≡ recordedAll cs (begun q) .took ++ inside (view (recordedAll cs (begun q) .ring))
 first-in-first-out-from q g cs = calls-kept cs (begun q) (begun-kept q g) .order
 
 -- every state that is reached is well formed, with at most 64 waiting and at most 65 in all
-pub reachable-is-well-formed : (cs : List Call) → wellFormed (afterAll cs (begun freshRing) .ring) ≡ true
+pub reachable-is-well-formed : (cs : List Call) → wellFormed (recordedAll cs (begun freshRing) .ring) ≡ true
 reachable-is-well-formed cs = calls-kept cs (begun freshRing) (begun-kept freshRing fresh-good) .good .formed
 
-pub never-above-64 : (cs : List Call) → afterAll cs (begun freshRing) .ring .waiting ≤ 64
-never-above-64 cs = formed (afterAll cs (begun freshRing) .ring) (reachable-is-well-formed cs) .waiting
+pub never-above-64 : (cs : List Call) → recordedAll cs (begun freshRing) .ring .waiting ≤ 64
+never-above-64 cs = formed (recordedAll cs (begun freshRing) .ring) (reachable-is-well-formed cs) .waiting
 
-pub never-above-65 : (cs : List Call) → count (view (afterAll cs (begun freshRing) .ring)) ≤ 65
+pub never-above-65 : (cs : List Call) → count (view (recordedAll cs (begun freshRing) .ring)) ≤ 65
 never-above-65 cs =
-    at-most-65 (view (afterAll cs (begun freshRing) .ring))
-    (good-fits (afterAll cs (begun freshRing) .ring) (reachable-is-well-formed cs))
+    at-most-65 (view (recordedAll cs (begun freshRing) .ring))
+    (good-fits (recordedAll cs (begun freshRing) .ring) (reachable-is-well-formed cs))

@@ -1,10 +1,12 @@
 pub mod Answers
 pub mod Commands
 pub mod Dressed
+pub mod Entries
 pub mod FirstByte
 pub mod FirstInFirstOut
 pub mod Fit
 pub mod IllFormed
+pub mod Numbered
 pub mod OneAnswer
 pub mod Order
 pub mod Pairs
@@ -15,4 +17,5 @@ pub mod Refines
 pub mod Sends
 pub mod TriedByHand
 pub mod Turns
+pub mod Verdicts
 pub mod WellFormed

@@ -2,12 +2,14 @@
 -- recovered from it.
 -- Assumes nothing.
 use mathlib.Core.Bool.{cond}
+use mathlib.Core.List.{List, [], _∷_}
 use mathlib.Core.Path.{_≡_, refl, ap, ap₂, sym, _∙_}
 use Prim.Native.Nat.{ℕ}
 use lib.Dec.{eqb}
 use Rattle.code.proofs.OneAnswer.{Injective}
 use Rattle.code.specs.Outcome.{Outcome, answer, refused}
 use Rattle.code.specs.declared.pair.Pair.{Pair}
+use Rattle.queue.specs.Admission.{entryOutcome}
 use Rattle.queue.specs.Ring.{countAnswerOutcome, countOutcome, popAnswerOutcome, popOutcome, pushAnswerOutcome, pushOutcome}
 use Rattle.queue.specs.declared.count.CountAnswer.{CountAnswer}
 use Rattle.queue.specs.declared.count.CountAnswer.the-variants as count-answer
@@ -15,6 +17,8 @@ use Rattle.queue.specs.declared.count.Counted.{Counted}
 use Rattle.queue.specs.declared.pop.PopAnswer.{PopAnswer}
 use Rattle.queue.specs.declared.pop.PopAnswer.the-variants as pop-answer
 use Rattle.queue.specs.declared.pop.Popped.{Popped}
+use Rattle.queue.specs.declared.push.Entry.{Entry}
+use Rattle.queue.specs.declared.push.Entry.the-variants as entry
 use Rattle.queue.specs.declared.push.PushAnswer.{PushAnswer}
 use Rattle.queue.specs.declared.push.PushAnswer.the-variants as push-answer
 use Rattle.queue.specs.declared.push.Pushed.{Pushed}
@@ -50,11 +54,11 @@ push-injective r s e =
 
 -- a pop's; the number of a refusal is not looked at, since a pop is refused by 12 only
 abbrev popAnswerOf : Outcome Pair → PopAnswer
-popAnswerOf (answer p) = pop-answer.Sent p
+popAnswerOf (answer p) = pop-answer.Next p
 popAnswerOf (refused n) = pop-answer.IllFormed
 
 pop-answer-found : (a : PopAnswer) → popAnswerOf (popAnswerOutcome a) ≡ a
-pop-answer-found (pop-answer.Sent p) = refl
+pop-answer-found (pop-answer.Next p) = refl
 pop-answer-found pop-answer.IllFormed = refl
 
 pub pop-answer-injective : Injective popAnswerOutcome
@@ -81,3 +85,21 @@ pub count-injective : Injective countOutcome
 count-injective r s e =
     ap₂ {C = Counted} (λ (a : CountAnswer) (q : Queue). record { answer = a; queue = q })
     (count-answer-injective (r .answer) (s .answer) (ap (λ (w : Outcome ℕ × Queue). w .0) e)) (ap beside e)
+
+-- what a push stores
+abbrev entryOf : Outcome (List ℕ) → Entry
+entryOf (answer []) = entry.Unchanged push-answer.Accepted
+entryOf (answer (n ∷ ns)) = entry.Stored n
+entryOf (refused k) = entry.Unchanged (pushAnswerOf (refused k))
+
+entry-found : (e : Entry) → entryOf (entryOutcome e) ≡ e
+entry-found (entry.Stored n) = refl
+entry-found (entry.Unchanged push-answer.Accepted) = refl
+entry-found (entry.Unchanged push-answer.UnknownByte) = refl
+entry-found (entry.Unchanged push-answer.NoSuchRow) = refl
+entry-found (entry.Unchanged push-answer.NotACommand) = refl
+entry-found (entry.Unchanged push-answer.Full) = refl
+entry-found (entry.Unchanged push-answer.IllFormed) = refl
+
+pub entry-injective : Injective entryOutcome
+entry-injective a b e = sym (entry-found a) ∙ ap entryOf e ∙ entry-found b

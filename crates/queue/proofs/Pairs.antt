@@ -10,7 +10,7 @@ use native.Mathlib.Omega.{arith}
 use lib.Count.{ones, onesIn}
 use lib.Dec.{eqb, lit<}
 use Rattle.code.proofs.Lengths.{text-has-one-byte}
-use Rattle.code.proofs.Written.{Sent, SentPair, domain-is-written, nul-sent, read-as-command, read-as-text, settled, written-is-sent}
+use Rattle.code.proofs.Written.{SentByte, SentPair, domain-is-written, nul-sent, read-as-command, read-as-text, settled, written-is-sent}
 use Rattle.code.specs.Code.{byteLen, needsBackspace}
 use Rattle.code.specs.Outcome.{Outcome, answer, refused}
 use Rattle.code.specs.Parity.{stripped}
@@ -21,12 +21,12 @@ use Rattle.code.specs.declared.pair.Pair.{Pair}
 use Rattle.code.proofs.Both.{both-left, both-right}
 use Rattle.queue.proofs.Dressed.{queueable-is-in-domain}
 use Rattle.queue.specs.Good.{Fit}
-use Rattle.queue.specs.Queue.{Queued, isNul, isSingle, mayWait, pairOf, pop, popCommand, popHeld, popSingle, popTwo, popWaiting, queued, sent}
+use Rattle.queue.specs.Queue.{Queued, isNul, isSingle, mayWait, pairOf, pop, popCommand, popHeld, popSingle, popTwo, popWaiting, queued, pairWritten}
 use Rattle.queue.specs.Queueable.{isAnswer, isQueueable}
 use Rattle.queue.specs.Ring.{allMayWait}
-use Rattle.queue.specs.Sent.{readsCommand}
+use Rattle.queue.specs.Made.{readsCommand}
 
-written : (c : Code) (o : Outcome (Pair × ℕ)) → writeCode c ≡ o → isAnswer (settled o) ≡ true → SentPair (sent o)
+written : (c : Code) (o : Outcome (Pair × ℕ)) → writeCode c ≡ o → isAnswer (settled o) ≡ true → SentPair (pairWritten o)
 written c (answer x) e inside = written-is-sent c (x .0) (x .1) e .0
 written c (refused n) e inside = let z : _≡_ {A = ℕ} 0 1 = cc in absurd (omega arith)
 
@@ -37,7 +37,7 @@ code-is-sent c e =
     written c (writeCode c) refl (ap isAnswer (sym (domain-is-written c)) ∙ queueable-is-in-domain c e)
 
 -- so that it goes out as it is written, and never as the 80 80 of a code that cannot be
-as-written : (c : Code) (o : Outcome (Pair × ℕ)) → writeCode c ≡ o → isAnswer (settled o) ≡ true → writeCode c ≡ answer (sent o, byteLen c)
+as-written : (c : Code) (o : Outcome (Pair × ℕ)) → writeCode c ≡ o → isAnswer (settled o) ≡ true → writeCode c ≡ answer (pairWritten o, byteLen c)
 as-written c (answer x) e inside = e ∙ ap {B = Outcome (Pair × ℕ)} (λ (n : ℕ). answer (x .0, n)) (written-is-sent c (x .0) (x .1) e .1)
 as-written c (refused n) e inside = let z : _≡_ {A = ℕ} 0 1 = cc in absurd (omega arith)
 
@@ -46,11 +46,11 @@ unfolding pairOf
 code-goes-out-as-written c e =
     as-written c (writeCode c) refl (ap isAnswer (sym (domain-is-written c)) ∙ queueable-is-in-domain c e)
 
-space-sent : Sent 0x20
+space-sent : SentByte 0x20
 unfolding ones onesIn
 space-sent = record { odd = refl; small = lit< tt }
 
-space-or-nul : (t : Bool) → Sent (cond t 0x20 0x80)
+space-or-nul : (t : Bool) → SentByte (cond t 0x20 0x80)
 space-or-nul true = space-sent
 space-or-nul false = nul-sent
 

@@ -10,77 +10,76 @@ use native.Mathlib.Omega.{arith}
 use lib.ListN.{drop, getD, length, set}
 use lib.Seq.{getD-set-other, getD-set-same}
 use Rattle.code.specs.declared.code.Code.{Code}
-use Rattle.code.specs.declared.code.Code.the-variants as code
-use Rattle.queue.specs.Ring.{codeAt, codesFrom, slot}
-use Rattle.queue.specs.declared.ring.Slot.{Slot}
+use Rattle.queue.specs.Number.{codeOf}
+use Rattle.queue.specs.Ring.{codeAt, codesFrom, numberAt}
 
--- the code at a place that is one of the ring's
-pub place-is : (slots : List Slot) (at : ℕ) → at < 64 → getD slots at (slot code.Nul) .code ≡ codeAt slots at
-place-is slots at less =
+-- the number at a place that is one of the ring's
+pub place-is : (places : List ℕ) (at : ℕ) → at < 64 → getD places at 0 ≡ numberAt places at
+place-is places at less =
     let here : at ≡ at % 64 = omega arith in
-    ap (λ (k : ℕ). getD slots k (slot code.Nul) .code) here
+    ap (λ (k : ℕ). getD places k 0) here
 
-pub none-wait : (slots : List Slot) (at n : ℕ) → n ≡ 0 → codesFrom slots at n ≡ []
-none-wait slots at n e = ap (codesFrom slots at) e
+pub none-wait : (places : List ℕ) (at n : ℕ) → n ≡ 0 → codesFrom places at n ≡ []
+none-wait places at n e = ap (codesFrom places at) e
 
 -- the first of those that wait, and the others
-pub first-waits : (slots : List Slot) (at n : ℕ) → 0 < n → codesFrom slots at n ≡ codeAt slots at ∷ codesFrom slots (at + 1) (n - 1)
-first-waits slots at zero h = absurd (not-suc-le-zero h)
-first-waits slots at (suc n) h =
+pub first-waits : (places : List ℕ) (at n : ℕ) → 0 < n → codesFrom places at n ≡ codeAt places at ∷ codesFrom places (at + 1) (n - 1)
+first-waits places at zero h = absurd (not-suc-le-zero h)
+first-waits places at (suc n) h =
     let e : n ≡ suc n - 1 = omega arith in
-    ap (λ (k : ℕ). codeAt slots at ∷ codesFrom slots (at + 1) k) e
+    ap (λ (k : ℕ). codeAt places at ∷ codesFrom places (at + 1) k) e
 
-pub how-many : (slots : List Slot) (at n : ℕ) → length (codesFrom slots at n) ≡ n
-how-many slots at zero = refl
-how-many slots at (suc n) = ap suc (how-many slots (at + 1) n)
+pub how-many : (places : List ℕ) (at n : ℕ) → length (codesFrom places at n) ≡ n
+how-many places at zero = refl
+how-many places at (suc n) = ap suc (how-many places (at + 1) n)
 
 -- a place is the same place 64 further on
-pub over-the-seam : (slots : List Slot) (at n : ℕ) → codesFrom slots (at % 64) n ≡ codesFrom slots at n
-over-the-seam slots at zero = refl
-over-the-seam slots at (suc n) =
+pub over-the-seam : (places : List ℕ) (at n : ℕ) → codesFrom places (at % 64) n ≡ codesFrom places at n
+over-the-seam places at zero = refl
+over-the-seam places at (suc n) =
     let here : at % 64 % 64 ≡ at % 64 = omega arith in
     let next : (at % 64 + 1) % 64 ≡ (at + 1) % 64 = omega arith in
-    ap₂ (λ (k : ℕ) (l : List Code). getD slots k (slot code.Nul) .code ∷ l) here
-    (sym (over-the-seam slots (at % 64 + 1) n)
-    ∙ ap (λ (k : ℕ). codesFrom slots k n) next
-    ∙ over-the-seam slots (at + 1) n)
+    ap₂ (λ (k : ℕ) (l : List Code). codeOf (getD places k 0) ∷ l) here
+    (sym (over-the-seam places (at % 64 + 1) n)
+    ∙ ap (λ (k : ℕ). codesFrom places k n) next
+    ∙ over-the-seam places (at + 1) n)
 
 -- k places freed at the front: the first k codes are gone
-pub freed-in-front : (slots : List Slot) (at n k : ℕ) → k ≤ n → codesFrom slots (at + k) (n - k) ≡ drop k (codesFrom slots at n)
-freed-in-front slots at n zero h =
+pub freed-in-front : (places : List ℕ) (at n k : ℕ) → k ≤ n → codesFrom places (at + k) (n - k) ≡ drop k (codesFrom places at n)
+freed-in-front places at n zero h =
     let here : at + 0 ≡ at = omega arith in
     let all : n - 0 ≡ n = omega arith in
-    ap₂ (codesFrom slots) here all
-freed-in-front slots at zero (suc k) h = absurd (not-suc-le-zero h)
-freed-in-front slots at (suc n) (suc k) h =
+    ap₂ (codesFrom places) here all
+freed-in-front places at zero (suc k) h = absurd (not-suc-le-zero h)
+freed-in-front places at (suc n) (suc k) h =
     let on : at + suc k ≡ at + 1 + k = omega arith in
     let left : suc n - suc k ≡ n - k = omega arith in
-    ap₂ (codesFrom slots) on left ∙ freed-in-front slots (at + 1) n k (omega arith)
+    ap₂ (codesFrom places) on left ∙ freed-in-front places (at + 1) n k (omega arith)
 
 -- one code more is the next one
-one-more : (slots : List Slot) (at n : ℕ) → codesFrom slots at (suc n) ≡ codesFrom slots at n ++ (codeAt slots (at + n) ∷ [])
-one-more slots at zero =
+one-more : (places : List ℕ) (at n : ℕ) → codesFrom places at (suc n) ≡ codesFrom places at n ++ (codeAt places (at + n) ∷ [])
+one-more places at zero =
     let here : at ≡ at + 0 = omega arith in
-    ap (λ (k : ℕ). codeAt slots k ∷ []) here
-one-more slots at (suc n) =
+    ap (λ (k : ℕ). codeAt places k ∷ []) here
+one-more places at (suc n) =
     let on : at + 1 + n ≡ at + suc n = omega arith in
-    ap (λ (l : List Code). codeAt slots at ∷ l) (one-more slots (at + 1) n)
-    ∙ ap (λ (k : ℕ). codeAt slots at ∷ (codesFrom slots (at + 1) n ++ (codeAt slots k ∷ []))) on
+    ap (λ (l : List Code). codeAt places at ∷ l) (one-more places (at + 1) n)
+    ∙ ap (λ (k : ℕ). codeAt places at ∷ (codesFrom places (at + 1) n ++ (codeAt places k ∷ []))) on
 
 -- what is stored k places on, at least n and fewer than 64, does not touch the first n
-untouched : (slots : List Slot) (at n k : ℕ) (s : Slot) → n ≤ k → k < 64 → codesFrom (set slots ((at + k) % 64) s) at n ≡ codesFrom slots at n
-untouched slots at zero k s far less = refl
-untouched slots at (suc n) k s far less =
+untouched : (places : List ℕ) (at n k s : ℕ) → n ≤ k → k < 64 → codesFrom (set places ((at + k) % 64) s) at n ≡ codesFrom places at n
+untouched places at zero k s far less = refl
+untouched places at (suc n) k s far less =
     let apart : at % 64 ≡ (at + k) % 64 → ⊥ = λ e. omega arith in
     let on : at + k ≡ at + 1 + (k - 1) = omega arith in
-    ap₂ (λ (x : Slot) (l : List Code). x .code ∷ l) (getD-set-other slots ((at + k) % 64) (at % 64) s (slot code.Nul) apart)
-    (ap (λ (p : ℕ). codesFrom (set slots (p % 64) s) (at + 1) n) on
-    ∙ untouched slots (at + 1) n (k - 1) s (omega arith) (omega arith))
+    ap₂ (λ (x : ℕ) (l : List Code). codeOf x ∷ l) (getD-set-other places ((at + k) % 64) (at % 64) s 0 apart)
+    (ap (λ (p : ℕ). codesFrom (set places (p % 64) s) (at + 1) n) on
+    ∙ untouched places (at + 1) n (k - 1) s (omega arith) (omega arith))
 
--- a code stored at the place after the last is the last
-pub stored-behind : (slots : List Slot) (at n : ℕ) (c : Code) → length slots ≡ 64 → n < 64 → codesFrom (set slots ((at + n) % 64) (slot c)) at (n + 1) ≡ codesFrom slots at n ++ (c ∷ [])
-stored-behind slots at n c size less =
-    ap (codesFrom (set slots ((at + n) % 64) (slot c)) at) (add-one n)
-    ∙ one-more (set slots ((at + n) % 64) (slot c)) at n
-    ∙ ap₂ (λ (l : List Code) (x : Slot). l ++ (x .code ∷ [])) (untouched slots at n n (slot c) (omega arith) less)
-    (getD-set-same slots ((at + n) % 64) (slot c) (slot code.Nul) (omega arith))
+-- a number stored at the place after the last is the last
+pub stored-behind : (places : List ℕ) (at n s : ℕ) → length places ≡ 64 → n < 64 → codesFrom (set places ((at + n) % 64) s) at (n + 1) ≡ codesFrom places at n ++ (codeOf s ∷ [])
+stored-behind places at n s size less =
+    ap (codesFrom (set places ((at + n) % 64) s) at) (add-one n)
+    ∙ one-more (set places ((at + n) % 64) s) at n
+    ∙ ap₂ (λ (l : List Code) (x : ℕ). l ++ (codeOf x ∷ [])) (untouched places at n n s (omega arith) less)
+    (getD-set-same places ((at + n) % 64) s 0 (omega arith))

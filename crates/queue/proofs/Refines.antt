@@ -5,7 +5,7 @@ use mathlib.Core.Bool.{Bool, true, false, cond}
 use mathlib.Core.List.{List, [], _∷_, _++_}
 use mathlib.Core.Option.{Option, none, some}
 use mathlib.Core.Path.{_≡_, refl, ap, ap₂, sym, subst, _∙_}
-use Prim.Native.Nat.{ℕ, suc, _+_, _-_, _<_}
+use Prim.Native.Nat.{ℕ, zero, suc, _+_, _-_, _<_}
 use native.Mathlib.Omega.{arith}
 use lib.ListN.{drop, length, length-set}
 use Rattle.code.specs.Code.{needsBackspace}
@@ -14,22 +14,24 @@ use Rattle.code.specs.declared.code.Code.{Code}
 use Rattle.code.specs.declared.pair.Pair.{Pair}
 use Rattle.queue.proofs.Fit.{pop-fits, push-fits}
 use Rattle.queue.proofs.Places.{freed-in-front, how-many, over-the-seam, stored-behind}
-use Rattle.queue.proofs.WellFormed.{formed, stored-has-room, well-formed}
+use Rattle.queue.proofs.Numbered.{gives-the-code-back}
+use Rattle.queue.proofs.WellFormed.{formed, stored-has-room, stored-may-wait, well-formed}
 use Rattle.queue.specs.Good.{Fit, Good, seen}
-use Rattle.queue.specs.Queue.{Pop, Queued, admit, count, entered, isSingle, pop, popCommand, popHeld, popSingle, popTwo, popWaiting, push, queued}
-use Rattle.queue.specs.Ring.{countRing, freshRing, gone, heldAs, heldIn, leftIn, popRing, pushRing, stored, view, waitingIn, wellFormed}
+use Rattle.queue.specs.Number.{codeOf, numberOf}
+use Rattle.queue.specs.Queue.{Pop, Queued, admit, count, entered, isSingle, mayWait, pop, popCommand, popHeld, popSingle, popTwo, popWaiting, push, queued}
+use Rattle.queue.specs.Ring.{codeAt, codesFrom, countRing, freshRing, gone, heldAs, heldIn, leftIn, numberAt, popRing, pushRing, stored, view, waitingIn, wellFormed}
 use Rattle.queue.specs.declared.ring.Queue.{Queue}
 
 -- the list of a well-formed ring, and back
 pub good-fits : (q : Queue) → wellFormed q ≡ true → Fit (view q)
 good-fits q e =
     let f = formed q e in
-    record { size = omega (arith, f .waiting, how-many (q .slots) (q .start) (q .waiting)); held = f .held; codes = f .codes }
+    record { size = omega (arith, f .waiting, how-many (q .places) (q .start) (q .waiting)); held = f .held; codes = f .codes }
 
 pub fits-formed : (q : Queue) → q .start < 64 → Fit (view q) → wellFormed q ≡ true
 fits-formed q less f = well-formed q (record {
   start = less;
-  waiting = omega (arith, f .size, how-many (q .slots) (q .start) (q .waiting));
+  waiting = omega (arith, f .size, how-many (q .places) (q .start) (q .waiting));
   held = f .held;
   codes = f .codes;
 })
@@ -39,12 +41,14 @@ unfolding wellFormed
 fresh-good = record { formed = refl; places = refl }
 
 -- a push
-view-of-stored : (q : Queue) (c : Code) → length (q .slots) ≡ 64 → q .waiting < 64 → view (stored q c) ≡ queued (waitingIn q ++ (c ∷ [])) (heldIn (q .held))
-view-of-stored q c size less =
-    ap (λ (l : List Code). queued l (heldIn (q .held))) (stored-behind (q .slots) (q .start) (q .waiting) c size less)
+view-of-stored : (q : Queue) (c : Code) → length (q .places) ≡ 64 → q .waiting < 64 → mayWait c ≡ true → view (stored q c) ≡ queued (waitingIn q ++ (c ∷ [])) (heldIn (q .held))
+view-of-stored q c size less may =
+    ap (λ (l : List Code). queued l (heldIn (q .held))) (stored-behind (q .places) (q .start) (q .waiting) (numberOf c) size less)
+    ∙ ap (λ (x : Code). queued (waitingIn q ++ (x ∷ [])) (heldIn (q .held))) (gives-the-code-back c may)
 
-entered-refines : (o : Outcome Bool) (q : Queue) (c : Code) → admit c (q .waiting) ≡ o → length (q .slots) ≡ 64 → seen (entered o (stored q c) q) ≡ entered o (queued (waitingIn q ++ (c ∷ [])) (heldIn (q .held))) (view q)
-entered-refines (answer true) q c e size = rw (view-of-stored q c size (stored-has-room c (q .waiting) e)) refl
+entered-refines : (o : Outcome Bool) (q : Queue) (c : Code) → admit c (q .waiting) ≡ o → length (q .places) ≡ 64 → seen (entered o (stored q c) q) ≡ entered o (queued (waitingIn q ++ (c ∷ [])) (heldIn (q .held))) (view q)
+entered-refines (answer true) q c e size =
+    rw (view-of-stored q c size (stored-has-room c (q .waiting) e) (stored-may-wait c (q .waiting) e)) refl
 entered-refines (answer false) q c e size = refl
 entered-refines (refused n) q c e size = refl
 
@@ -53,19 +57,19 @@ unfolding pushRing
 push-refines q c g =
     ap (λ (t : Bool). seen (cond t (entered (admit c (q .waiting)) (stored q c) q) (refused 12, q))) (g .formed)
     ∙ entered-refines (admit c (q .waiting)) q c refl (g .places)
-    ∙ ap (λ (n : ℕ). entered (admit c n) (queued (waitingIn q ++ (c ∷ [])) (heldIn (q .held))) (view q)) (sym (how-many (q .slots) (q .start) (q .waiting)))
+    ∙ ap (λ (n : ℕ). entered (admit c n) (queued (waitingIn q ++ (c ∷ [])) (heldIn (q .held))) (view q)) (sym (how-many (q .places) (q .start) (q .waiting)))
 
 entered-start : (o : Outcome Bool) (q : Queue) (c : Code) → entered o (stored q c) q .1 .start ≡ q .start
 entered-start (answer true) q c = refl
 entered-start (answer false) q c = refl
 entered-start (refused n) q c = refl
 
-entered-places : (o : Outcome Bool) (q : Queue) (c : Code) → length (entered o (stored q c) q .1 .slots) ≡ length (q .slots)
-entered-places (answer true) q c = length-set (q .slots) _ _
+entered-places : (o : Outcome Bool) (q : Queue) (c : Code) → length (entered o (stored q c) q .1 .places) ≡ length (q .places)
+entered-places (answer true) q c = length-set (q .places) _ _
 entered-places (answer false) q c = refl
 entered-places (refused n) q c = refl
 
-next-good : (q : Queue) → q .start < 64 → length (q .slots) ≡ 64 → Fit (view q) → Good q
+next-good : (q : Queue) → q .start < 64 → length (q .places) ≡ 64 → Fit (view q) → Good q
 next-good q less size f = record { formed = fits-formed q less f; places = size }
 
 pub push-good : (q : Queue) (c : Code) → Good q → Good (pushRing q c .1)
@@ -76,7 +80,7 @@ push-good q c g =
     let fits = subst (λ (r : Outcome Unit × Queued). Fit (r .1)) (sym (push-refines q c g)) (push-fits c (view q) (good-fits q (g .formed))) in
     next-good (pushRing q c .1)
     (omega (arith, ap (λ (r : Queue). r .start) here, entered-start (admit c (q .waiting)) q c, formed q (g .formed) .start))
-    (ap (λ (r : Queue). length (r .slots)) here ∙ entered-places (admit c (q .waiting)) q c ∙ g .places)
+    (ap (λ (r : Queue). length (r .places)) here ∙ entered-places (admit c (q .waiting)) q c ∙ g .places)
     fits
 
 -- a pop takes codes off the front of those that wait
@@ -123,18 +127,54 @@ pub pop-drops : (v : Queued) → Drops (v .waiting) (pop v)
 unfolding pop
 pop-drops v = held-drops (v .held) (v .waiting)
 
-held-back : (h : Option Code) → heldIn (heldAs h) ≡ h
-held-back none = refl
-held-back (some c) = refl
+-- and a code that it then holds is the last of them
+abbrev Keeps : (ℕ → ℕ) → List Code → Pop → Type 0
+Keeps numbers l p = heldIn (heldAs (numbers (length l - length (p .next .waiting) - 1)) (p .next .held)) ≡ p .next .held
+
+keeps-at : (numbers : ℕ → ℕ) (c : Code) (n k : ℕ) → n ≡ k → codeOf (numbers k) ≡ c → some (codeOf (numbers n)) ≡ some c
+keeps-at numbers c n k e back = ap (λ (i : ℕ). some (codeOf (numbers i))) e ∙ ap some back
+
+command-keeps : (numbers : ℕ → ℕ) (x : Code) (rest : List Code) (t : Bool) → needsBackspace x ≡ t → codeOf (numbers 0) ≡ x → Keeps numbers (x ∷ rest) (popCommand x rest)
+command-keeps numbers x rest true e first = rw e (keeps-at numbers x (suc (length rest) - length rest - 1) 0 (omega arith) first)
+command-keeps numbers x rest false e first = rw e refl
+
+two-keep : (numbers : ℕ → ℕ) (x y : Code) (rest : List Code) (t : Bool) → isSingle y ≡ t → codeOf (numbers 1) ≡ y → Keeps numbers (x ∷ y ∷ rest) (popTwo x y rest)
+two-keep numbers x y rest true e second = rw e refl
+two-keep numbers x y rest false e second = rw e (keeps-at numbers y (suc (suc (length rest)) - length rest - 1) 1 (omega arith) second)
+
+single-keeps : (numbers : ℕ → ℕ) (places : List ℕ) (at n : ℕ) (x : Code) → codeOf (numbers 1) ≡ codeAt places at → Keeps numbers (x ∷ codesFrom places at n) (popSingle x (codesFrom places at n))
+single-keeps numbers places at zero x second = refl
+single-keeps numbers places at (suc n) x second =
+    two-keep numbers x (codeAt places at) (codesFrom places (at + 1) n) (isSingle (codeAt places at)) refl second
+
+waiting-keeps : (numbers : ℕ → ℕ) (places : List ℕ) (at n : ℕ) (x : Code) (t : Bool) → isSingle x ≡ t → codeOf (numbers 0) ≡ x → codeOf (numbers 1) ≡ codeAt places at → Keeps numbers (x ∷ codesFrom places at n) (popWaiting (x ∷ codesFrom places at n))
+waiting-keeps numbers places at n x true e first second = rw e (single-keeps numbers places at n x second)
+waiting-keeps numbers places at n x false e first second =
+    rw e (command-keeps numbers x (codesFrom places at n) (needsBackspace x) refl first)
+
+held-keeps : (h : Option Code) (places : List ℕ) (at n : ℕ) → Keeps (λ (k : ℕ). numberAt places (at + k)) (codesFrom places at n) (popHeld h (codesFrom places at n))
+held-keeps (some c) places at n = refl
+held-keeps none places at zero = refl
+held-keeps none places at (suc n) =
+    let here : at + 0 ≡ at = omega arith in
+    waiting-keeps (λ (k : ℕ). numberAt places (at + k)) places (at + 1) n (codeAt places at) (isSingle (codeAt places at)) refl (ap (codeAt places) here) refl
+
+pub pop-keeps-the-number : (q : Queue) → heldIn (leftIn q .held) ≡ pop (view q) .next .held
+unfolding pop
+pop-keeps-the-number q = held-keeps (heldIn (q .held)) (q .places) (q .start) (q .waiting)
 
 waiting-left : (q : Queue) → waitingIn (leftIn q) ≡ pop (view q) .next .waiting
 waiting-left q =
-    over-the-seam (q .slots) (q .start + gone q) (q .waiting - gone q)
-    ∙ freed-in-front (q .slots) (q .start) (q .waiting) (gone q) (omega (arith, how-many (q .slots) (q .start) (q .waiting)))
+    over-the-seam (q .places) (q .start + gone q) (q .waiting - gone q)
+    ∙ freed-in-front (q .places) (q .start) (q .waiting) (gone q) (omega (arith, how-many (q .places) (q .start) (q .waiting)))
     ∙ pop-drops (view q)
 
 pub view-of-left : (q : Queue) → view (leftIn q) ≡ pop (view q) .next
-view-of-left q = ap₂ queued (waiting-left q) (held-back (pop (view q) .next .held))
+view-of-left q = ap₂ queued (waiting-left q) (pop-keeps-the-number q)
+
+pub popped-as : (q : Queue) → wellFormed q ≡ true → popRing q ≡ (answer (pop (view q) .pair), leftIn q)
+unfolding popRing
+popped-as q e = rw e refl
 
 pub pop-refines : (q : Queue) → Good q → seen (popRing q) ≡ (answer (pop (view q) .pair), pop (view q) .next)
 unfolding popRing
@@ -150,7 +190,7 @@ pop-good q g =
     let fits = subst (λ (r : Outcome Pair × Queued). Fit (r .1)) (sym (pop-refines q g)) (pop-fits (view q) (good-fits q (g .formed))) in
     next-good (popRing q .1)
     (omega (arith, ap (λ (r : Queue). r .start) here))
-    (ap (λ (r : Queue). length (r .slots)) here ∙ g .places)
+    (ap (λ (r : Queue). length (r .places)) here ∙ g .places)
     fits
 
 -- a count changes nothing

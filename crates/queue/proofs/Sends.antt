@@ -15,7 +15,7 @@ use Rattle.code.proofs.Both.{both-left}
 use Rattle.queue.specs.Good.{Fit}
 use Rattle.queue.specs.Queue.{isSingle, mayBeHeld, pairOf, Pop, pop, popCommand, popHeld, popSingle, popTwo, popWaiting, Queued, queued}
 use Rattle.queue.specs.Queueable.{isQueueable}
-use Rattle.queue.specs.Sent.{hasTwoByteCode, pairFor}
+use Rattle.queue.specs.Made.{hasTwoByteCode, pairFor}
 
 -- a pop takes single codes alone, or none, and its pair is theirs before the command then held; or it takes one two-byte code
 -- alone, sends that, and then holds nothing

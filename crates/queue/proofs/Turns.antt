@@ -1,21 +1,25 @@
--- What a pop does by the first two codes alone: what waits after them matters neither to the pair, nor to the places
--- freed, nor to what is held.
+-- What a pop does by the numbers at the first two places alone: what waits after them matters neither to the pair, nor to
+-- the places freed, nor to what is held.
 -- Assumes nothing.
-use mathlib.Core.Bool.{Bool, true, false}
+use mathlib.Core.Bool.{Bool, true, false, cond}
 use mathlib.Core.List.{List, [], _∷_}
-use mathlib.Core.Option.{none, some}
 use mathlib.Core.Path.{_≡_, refl, ap, ap₂, sym, _∙_}
-use Prim.Native.Nat.{ℕ, suc, _+_, _-_, _<_}
+use Prim.Native.Nat.{ℕ, zero, suc, _+_, _-_, _≤_, _<_}
 use native.Mathlib.Omega.{arith}
 use lib.ListN.{length}
 use Rattle.code.specs.Code.{needsBackspace}
+use Rattle.code.specs.Write.{pair}
 use Rattle.code.specs.declared.code.Code.{Code}
-use Rattle.queue.proofs.Places.{first-waits}
-use Rattle.queue.specs.Queue.{isSingle, pairOf, pop, popCommand, popSingle, popTwo, queued}
-use Rattle.queue.specs.Ring.{codeAt, codesFrom}
-use Rattle.queue.specs.Turn.{turn, turnOf}
+use Rattle.code.specs.declared.pair.Pair.{Pair}
+use Rattle.queue.proofs.Places.{how-many}
+use Rattle.queue.specs.Number.{codeOf}
+use Rattle.queue.specs.Queue.{Pop, byteOf, isSingle, pairOf, pop, popCommand, popSingle, popTwo, popWaiting, queued}
+use Rattle.queue.specs.Ring.{codeAt, codesFrom, heldAs, heldIn, leftIn, numberAt, view}
+use Rattle.queue.specs.Turn.{commandTurn, freeing, frontTurn, singleTurn, turnBy, turnOf}
+use Rattle.queue.specs.declared.pop.Turn.{Turn}
+use Rattle.queue.specs.declared.ring.Held.{Held}
 use Rattle.queue.specs.declared.ring.Held.the-variants as held
-use Rattle.queue.specs.declared.ring.Slot.{Slot}
+use Rattle.queue.specs.declared.ring.Queue.{Queue}
 
 none-freed : (n : ℕ) → n - n ≡ 0
 none-freed n = omega arith
@@ -26,49 +30,103 @@ one-freed n = omega arith
 two-freed : (n : ℕ) → suc (suc n) - n ≡ 2
 two-freed n = omega arith
 
-command-by : (x : Code) (rest : List Code) (b : Bool) → needsBackspace x ≡ b → turnOf (suc (length rest)) (popCommand x rest) ≡ turnOf 1 (popCommand x [])
-command-by x rest true e = simp (e, one-freed)
-command-by x rest false e = simp (e, one-freed)
-
-two-by : (x y : Code) (rest : List Code) (b : Bool) → isSingle y ≡ b → turnOf (suc (suc (length rest))) (popTwo x y rest) ≡ turnOf 2 (popTwo x y [])
-two-by x y rest true e = simp (e, two-freed)
-two-by x y rest false e = simp (e, two-freed)
-
-pub turn-of-command : (x : Code) (rest : List Code) → isSingle x ≡ false → turn (queued (x ∷ rest) none) ≡ turnOf 1 (popCommand x [])
-unfolding pop
-turn-of-command x rest e = rw e (command-by x rest (needsBackspace x) refl)
-
-pub turn-of-last : (x : Code) → isSingle x ≡ true → turn (queued (x ∷ []) none) ≡ turnOf 1 (popSingle x [])
-unfolding pop
-turn-of-last x e = simp e
-
-pub turn-of-two : (x y : Code) (rest : List Code) → isSingle x ≡ true → turn (queued (x ∷ y ∷ rest) none) ≡ turnOf 2 (popTwo x y [])
-unfolding pop
-turn-of-two x y rest e = rw e (two-by x y rest (isSingle y) refl)
+abbrev turning : Pair → ℕ → Held → Turn
+turning p freed h = record { pair = p; freed = freed; held = h }
 
 -- a held code goes out, and no place is freed
-pub turn-of-held : (c : Code) (waiting : List Code) → turn (queued waiting (some c)) ≡ record { pair = pairOf c; freed = 0; held = held.Absent }
+pub held-turn : (first second waiting n : ℕ) → turnOf first second waiting (held.Of n) ≡ turning (pairOf (codeOf n)) 0 held.Absent
 unfolding pop
-turn-of-held c waiting = simp none-freed
+held-turn first second zero n = refl
+held-turn first second (suc zero) n = refl
+held-turn first second (suc (suc waiting)) n = refl
 
--- the same over the ring's list, by its first codes
-pub command-first : (slots : List Slot) (at n : ℕ) (x : Code) → x ≡ codeAt slots at → 0 < n → isSingle x ≡ false → turnOf 1 (popCommand x []) ≡ turn (queued (codesFrom slots at n) none)
-command-first slots at n x here more e =
-    sym (turn-of-command x (codesFrom slots (at + 1) (n - 1)) e)
-    ∙ ap (λ (y : Code). turn (queued (y ∷ codesFrom slots (at + 1) (n - 1)) none)) here
-    ∙ ap (λ (l : List Code). turn (queued l none)) (sym (first-waits slots at n more))
+-- padding where nothing waits
+pub empty-turn : (first second waiting : ℕ) → waiting ≡ 0 → turnOf first second waiting held.Absent ≡ turning (pair 0x80 0x80) 0 held.Absent
+unfolding pop
+empty-turn first second zero e = refl
+empty-turn first second (suc waiting) e = absurd (omega (arith, e))
 
-pub last-first : (slots : List Slot) (at n : ℕ) (x : Code) → x ≡ codeAt slots at → n ≡ 1 → isSingle x ≡ true → turnOf 1 (popSingle x []) ≡ turn (queued (codesFrom slots at n) none)
-last-first slots at n x here one e =
-    sym (turn-of-last x e)
-    ∙ ap (λ (y : Code). turn (queued (y ∷ []) none)) here
-    ∙ ap (λ (k : ℕ). turn (queued (codesFrom slots at k) none)) (sym one)
+-- a command, whatever waits after it
+pub command-turns : (first second waiting : ℕ) → 0 < waiting → isSingle (codeOf first) ≡ false → frontTurn first second waiting ≡ commandTurn first
+unfolding pop
+command-turns first second zero more e = absurd (omega arith)
+command-turns first second (suc zero) more e = rw e refl
+command-turns first second (suc (suc waiting)) more e = rw e (by-backspace (needsBackspace (codeOf first)) refl)
+  where
+    by-backspace : (t : Bool) → needsBackspace (codeOf first) ≡ t → turnBy (first ∷ second ∷ []) (popCommand (codeOf first) (codeOf second ∷ [])) ≡ commandTurn first
+    by-backspace true wants = rw wants refl
+    by-backspace false wants = rw wants refl
 
-pub single-first : (slots : List Slot) (at n : ℕ) (x y : Code) → x ≡ codeAt slots at → y ≡ codeAt slots (at + 1) → 1 < n → isSingle x ≡ true → turnOf 2 (popTwo x y []) ≡ turn (queued (codesFrom slots at n) none)
-single-first slots at n x y here next more e =
-    let rest = codesFrom slots (at + 1 + 1) (n - 1 - 1) in
-    let behind = first-waits slots (at + 1) (n - 1) (omega arith) in
-    sym (turn-of-two x y rest e)
-    ∙ ap₂ (λ (a b : Code). turn (queued (a ∷ b ∷ rest) none)) here next
-    ∙ ap (λ (l : List Code). turn (queued (codeAt slots at ∷ l) none)) (sym behind)
-    ∙ ap (λ (l : List Code). turn (queued l none)) (sym (first-waits slots at n (omega arith)))
+-- a single code with nothing after it
+pub last-turns : (first second waiting : ℕ) → waiting ≡ 1 → isSingle (codeOf first) ≡ true → frontTurn first second waiting ≡ turning (pair (byteOf (codeOf first)) 0x80) 1 held.Absent
+unfolding pop
+last-turns first second zero one e = absurd (omega (arith, one))
+last-turns first second (suc zero) one e = rw e refl
+last-turns first second (suc (suc waiting)) one e = absurd (omega (arith, one))
+
+-- and with a code after it
+pub single-turns : (first second waiting : ℕ) → 1 < waiting → isSingle (codeOf first) ≡ true → frontTurn first second waiting ≡ singleTurn first second
+unfolding pop
+single-turns first second zero more e = absurd (omega arith)
+single-turns first second (suc zero) more e = absurd (omega arith)
+single-turns first second (suc (suc waiting)) more e = rw e refl
+
+-- the turn of the ring itself
+abbrev ringTurn : List ℕ → ℕ → List Code → Pop → Turn
+ringTurn places at l p =
+    turning (p .pair) (length l - length (p .next .waiting)) (heldAs (numberAt places (at + (length l - length (p .next .waiting) - 1))) (p .next .held))
+
+start-is : (places : List ℕ) (at : ℕ) → numberAt places (at + 0) ≡ numberAt places at
+start-is places at =
+    let here : at + 0 ≡ at = omega arith in
+    ap (numberAt places) here
+
+command-in-ring : (places : List ℕ) (at : ℕ) (rest : List Code) (t : Bool) → needsBackspace (codeAt places at) ≡ t → ringTurn places at (codeAt places at ∷ rest) (popCommand (codeAt places at) rest) ≡ commandTurn (numberAt places at)
+command-in-ring places at rest true e =
+    rw e
+    (ap₂ (λ (k i : ℕ). turning (pair 0x20 0x80) k (held.Of (numberAt places (at + i)))) (one-freed (length rest)) (ap (λ (k : ℕ). k - 1) (one-freed (length rest)))
+    ∙ ap (λ (n : ℕ). turning (pair 0x20 0x80) 1 (held.Of n)) (start-is places at))
+command-in-ring places at rest false e =
+    rw e (ap (λ (k : ℕ). turning (pairOf (codeAt places at)) k held.Absent) (one-freed (length rest)))
+
+two-in-ring : (places : List ℕ) (at : ℕ) (rest : List Code) (t : Bool) → isSingle (codeAt places (at + 1)) ≡ t → ringTurn places at (codeAt places at ∷ codeAt places (at + 1) ∷ rest) (popTwo (codeAt places at) (codeAt places (at + 1)) rest) ≡ singleTurn (numberAt places at) (numberAt places (at + 1))
+two-in-ring places at rest true e =
+    rw e (ap (λ (k : ℕ). turning (pair (byteOf (codeAt places at)) (byteOf (codeAt places (at + 1)))) k held.Absent) (two-freed (length rest)))
+two-in-ring places at rest false e =
+    rw e
+    (ap₂ (λ (k i : ℕ). turning (pair (byteOf (codeAt places at)) (cond (needsBackspace (codeAt places (at + 1))) 0x20 0x80)) k (held.Of (numberAt places (at + i)))) (two-freed (length rest)) (ap (λ (k : ℕ). k - 1) (two-freed (length rest))))
+
+single-in-ring : (places : List ℕ) (at n : ℕ) → isSingle (codeAt places at) ≡ true → frontTurn (numberAt places at) (numberAt places (at + 1)) (suc n) ≡ ringTurn places at (codesFrom places at (suc n)) (popSingle (codeAt places at) (codesFrom places (at + 1) n))
+single-in-ring places at zero e = last-turns (numberAt places at) (numberAt places (at + 1)) 1 refl e
+single-in-ring places at (suc n) e =
+    single-turns (numberAt places at) (numberAt places (at + 1)) (suc (suc n)) (omega arith) e
+    ∙ sym (two-in-ring places at (codesFrom places (at + 1 + 1) n) (isSingle (codeAt places (at + 1))) refl)
+
+front-in-ring : (places : List ℕ) (at n : ℕ) (t : Bool) → isSingle (codeAt places at) ≡ t → frontTurn (numberAt places at) (numberAt places (at + 1)) (suc n) ≡ ringTurn places at (codesFrom places at (suc n)) (popWaiting (codesFrom places at (suc n)))
+front-in-ring places at n true e = single-in-ring places at n e ∙ rw e refl
+front-in-ring places at n false e =
+    command-turns (numberAt places at) (numberAt places (at + 1)) (suc n) (omega arith) e
+    ∙ sym (command-in-ring places at (codesFrom places (at + 1) n) (needsBackspace (codeAt places at)) refl)
+    ∙ rw e refl
+
+in-ring : (places : List ℕ) (at n : ℕ) (h : Held) → turnOf (numberAt places at) (numberAt places (at + 1)) n h ≡ ringTurn places at (codesFrom places at n) (pop (queued (codesFrom places at n) (heldIn h)))
+unfolding pop
+in-ring places at n (held.Of k) =
+    held-turn (numberAt places at) (numberAt places (at + 1)) n k
+    ∙ ap (λ (i : ℕ). turning (pairOf (codeOf k)) i held.Absent) (sym (none-freed (length (codesFrom places at n))))
+in-ring places at zero held.Absent = refl
+in-ring places at (suc n) held.Absent = front-in-ring places at n (isSingle (codeAt places at)) refl
+
+-- the turn by the first two numbers is the ring's pop
+abbrev pub turnIn : Queue → Turn
+turnIn q = turnOf (numberAt (q .places) (q .start)) (numberAt (q .places) (q .start + 1)) (q .waiting) (q .held)
+
+pub turn-is-the-pop : (q : Queue) → turnIn q .pair ≡ pop (view q) .pair
+turn-is-the-pop q = ap (λ (t : Turn). t .pair) (in-ring (q .places) (q .start) (q .waiting) (q .held))
+
+pub turn-leaves : (q : Queue) → freeing q (turnIn q) ≡ leftIn q
+turn-leaves q = ap (freeing q) (in-ring (q .places) (q .start) (q .waiting) (q .held))
+
+pub turn-frees-waiting : (q : Queue) → turnIn q .freed ≤ q .waiting
+turn-frees-waiting q =
+    omega (arith, ap (λ (t : Turn). t .freed) (in-ring (q .places) (q .start) (q .waiting) (q .held)), how-many (q .places) (q .start) (q .waiting))

@@ -1,23 +1,25 @@
--- A well-formed state, clause by clause, and how the waiting codes are tested one by one.
+-- A well-formed state, clause by clause, and which of them a state can break; what a push admits.
 -- Assumes nothing.
-use mathlib.Core.Bool.{Bool, true, false, _&&_}
+use mathlib.Core.Bool.{Bool, true, false, _&&_, not}
 use mathlib.Core.List.{List}
 use mathlib.Core.Option.{Option, none, some}
-use mathlib.Core.Path.{_≡_, refl, ap, ap₂, _∙_}
-use Prim.Native.Nat.{ℕ, _+_, _-_, _≤_, _<_}
+use mathlib.Core.Path.{_≡_, refl, ap, sym, _∙_}
+use Prim.Native.Nat.{ℕ, zero, suc, _+_, _≤_, _<_}
 use native.Mathlib.Omega.{arith}
-use borrow.Author.Tests.{leb-false, leb-true, le-leb, ltb-true, lt-ltb}
-use lib.Dec.{leb, lit≤, ltb}
+use borrow.Author.Tests.{leb-false, leb-true, le-leb, le-ltb, ltb-true, lt-ltb}
+use lib.Dec.{eqb, leb, lit≤, ltb}
 use lib.ListN.{length}
 use Rattle.code.proofs.Both.{both-left, both-right}
+use Rattle.code.specs.Code.{byteLen}
 use Rattle.code.specs.Outcome.{Outcome, answer, refused}
 use Rattle.code.specs.declared.code.Code.{Code}
-use Rattle.queue.proofs.Places.{first-waits}
-use Rattle.queue.specs.Queue.{admit, admitBy, entered, heldCodes, isFull, isNul, mayWait}
-use Rattle.queue.specs.Queueable.{queueable}
-use Rattle.queue.specs.Ring.{allMayWait, codeAt, codesFrom, heldFits, heldIn, pushRing, stored, waitingIn, wellFormed}
+use Rattle.code.specs.declared.code.Code.the-variants as code
+use Rattle.queue.proofs.Numbered.{every-number-may-wait, length-told}
+use Rattle.queue.specs.Number.{codeOf}
+use Rattle.queue.specs.Queue.{admit, admitBy, heldCodes, isFull, isNul, isSingle, mayBeHeld, mayWait}
+use Rattle.queue.specs.Queueable.{isAnswer, isQueueable, queueable}
+use Rattle.queue.specs.Ring.{allMayWait, codesFrom, formedBy, heldFits, heldIn, numberAt, waitingIn, wellFormed}
 use Rattle.queue.specs.declared.ring.Queue.{Queue}
-use Rattle.queue.specs.declared.ring.Slot.{Slot}
 
 -- 12's clauses
 pub record Formed (q : Queue) : Type 0 where
@@ -42,14 +44,37 @@ pub well-formed : (q : Queue) → Formed q → wellFormed q ≡ true
 unfolding wellFormed
 well-formed q f = simp (lt-ltb (q .start) 64 (f .start), le-leb (q .waiting) 64 (f .waiting), f .held, f .codes)
 
--- of n codes from a place on, the first may wait or not
-pub first-passes : (slots : List Slot) (at n : ℕ) → 0 < n → mayWait (codeAt slots at) ≡ true → allMayWait (codesFrom slots at n) ≡ allMayWait (codesFrom slots (at + 1) (n - 1))
-first-passes slots at n more e =
-    ap allMayWait (first-waits slots at n more) ∙ ap (λ (t : Bool). t && allMayWait (codesFrom slots (at + 1) (n - 1))) e
+-- each number stands for a code that may wait, so that the clauses of the other parts are all
+all-may-wait : (places : List ℕ) (at n : ℕ) → allMayWait (codesFrom places at n) ≡ true
+all-may-wait places at zero = refl
+all-may-wait places at (suc n) = rw (every-number-may-wait (numberAt places at)) (all-may-wait places (at + 1) n)
 
-pub first-fails : (slots : List Slot) (at n : ℕ) → 0 < n → mayWait (codeAt slots at) ≡ false → allMayWait (codesFrom slots at n) ≡ false
-first-fails slots at n more e =
-    ap allMayWait (first-waits slots at n more) ∙ ap (λ (t : Bool). t && allMayWait (codesFrom slots (at + 1) (n - 1))) e
+no-more : (t u : Bool) → u ≡ true → (t && u) ≡ t
+no-more true u e = e
+no-more false u e = refl
+
+pub formed-by-the-rest : (q : Queue) → wellFormed q ≡ formedBy (q .start) (q .waiting) (q .held)
+unfolding wellFormed
+formed-by-the-rest q =
+    no-more (formedBy (q .start) (q .waiting) (q .held)) (allMayWait (waitingIn q)) (all-may-wait (q .places) (q .start) (q .waiting))
+
+-- a number below 8000 stands for a code that may be held, and no other
+length-two : (c : Code) → eqb (byteLen c) 2 ≡ not (isSingle c)
+length-two code.Nul = refl
+length-two (code.Control c) = refl
+length-two (code.Letter l) = refl
+length-two (code.Unknown b) = refl
+
+below-or-not : (a b : ℕ) (t : Bool) → leb a b ≡ t → not t ≡ ltb b a
+below-or-not a b true e = sym (le-ltb b a (leb-true a b e))
+below-or-not a b false e = sym (lt-ltb b a (leb-false a b e))
+
+pub held-told : (n : ℕ) → mayBeHeld (codeOf n) ≡ ltb n 0x8000
+held-told n =
+    no-more (eqb (byteLen (codeOf n)) 2) (isQueueable (codeOf n)) (both-right (not (isNul (codeOf n))) (isQueueable (codeOf n)) (every-number-may-wait n))
+    ∙ length-two (codeOf n)
+    ∙ ap not (length-told n)
+    ∙ below-or-not 0x8000 n (leb 0x8000 n) refl
 
 pub one-held : (h : Option Code) → length (heldCodes h) ≤ 1
 one-held none = lit≤ tt
@@ -66,15 +91,12 @@ pub stored-has-room : (c : Code) (n : ℕ) → admit c n ≡ answer true → n <
 unfolding admit
 stored-has-room c n e = leb-false 64 n (room (isNul c) (queueable c) (isFull n) e)
 
--- an admission from its parts
-pub admission-is : (c : Code) (n : ℕ) {nul full : Bool} {d : Outcome Unit} {o : Outcome Bool} → o ≡ admitBy nul d full → nul ≡ isNul c → d ≡ queueable c → full ≡ isFull n → o ≡ admit c n
-unfolding admit
-admission-is c n {full = full} e nul-is may full-is =
-    e
-    ∙ ap₂ (λ (t : Bool) (d : Outcome Unit). admitBy t d full) nul-is may
-    ∙ ap (λ (t : Bool). admitBy (isNul c) (queueable c) t) full-is
+-- and only a code that may wait
+may : (nul : Bool) (o : Outcome Unit) (full : Bool) → admitBy nul o full ≡ answer true → (not nul && isAnswer o) ≡ true
+may true o full e = let z : _≡_ {A = ℕ} 0 1 = cc in absurd (omega arith)
+may false (answer u) full e = refl
+may false (refused k) full e = let z : _≡_ {A = ℕ} 0 1 = cc in absurd (omega arith)
 
--- what a push of a well-formed state gives, by its admission
-pub pushed-as : (q : Queue) (c : Code) → wellFormed q ≡ true → (o : Outcome Bool) → o ≡ admit c (q .waiting) → entered o (stored q c) q ≡ pushRing q c
-unfolding pushRing
-pushed-as q c e o admission = rw e (ap (λ (x : Outcome Bool). entered x (stored q c) q) admission)
+pub stored-may-wait : (c : Code) (n : ℕ) → admit c n ≡ answer true → mayWait c ≡ true
+unfolding admit
+stored-may-wait c n e = may (isNul c) (queueable c) (isFull n) e

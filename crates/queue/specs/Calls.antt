@@ -53,11 +53,11 @@ ringAfter [] q = q
 ringAfter (c ∷ cs) q = ringAfter cs (onRing c q .1)
 
 -- the reply that an ill-formed state is to get: 12 to every call but a reset, which never refuses
-abbrev pub refusal : Call → Reply
-refusal (pushing c) = toPush (refused 12)
-refusal popping = toPop (refused 12)
-refusal counting = toCount (refused 12)
-refusal resetting = toReset
+abbrev pub illFormedReply : Call → Reply
+illFormedReply (pushing c) = toPush (refused 12)
+illFormedReply popping = toPop (refused 12)
+illFormedReply counting = toCount (refused 12)
+illFormedReply resetting = toReset
 
 abbrev pub isReset : Call → Bool
 isReset (pushing c) = false
@@ -83,23 +83,23 @@ letIn c (refused n) = []
 abbrev pub takenBy : Queue → List Code
 takenBy q = cond (wellFormed q) (pop (view q) .took) []
 
-abbrev pub after : Call → History → History
-after (pushing c) h = record {
+abbrev pub recorded : Call → History → History
+recorded (pushing c) h = record {
   accepted = h .accepted ++ letIn c (pushRing (h .ring) c .0);
   took = h .took;
   ring = pushRing (h .ring) c .1;
 }
-after popping h = record {
+recorded popping h = record {
   accepted = h .accepted;
   took = h .took ++ takenBy (h .ring);
   ring = popRing (h .ring) .1;
 }
-after counting h = record { accepted = h .accepted; took = h .took; ring = countRing (h .ring) .1 }
-after resetting h = record { accepted = []; took = []; ring = freshRing }
+recorded counting h = record { accepted = h .accepted; took = h .took; ring = countRing (h .ring) .1 }
+recorded resetting h = record { accepted = []; took = []; ring = freshRing }
 
-abbrev pub afterAll : List Call → History → History
-afterAll [] h = h
-afterAll (c ∷ cs) h = afterAll cs (after c h)
+abbrev pub recordedAll : List Call → History → History
+recordedAll [] h = h
+recordedAll (c ∷ cs) h = recordedAll cs (recorded c h)
 
 -- a history that begins with a state: what is inside it counts as accepted
 abbrev pub begun : Queue → History

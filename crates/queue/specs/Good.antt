@@ -18,7 +18,7 @@ pub record Fit (v : Queued) : Type 0 where
 -- a well-formed state, of the 64 places that every value of the type has
 pub record Good (q : Queue) : Type 0 where
   pub formed : wellFormed q ≡ true
-  pub places : length (q .slots) ≡ 64
+  pub places : length (q .places) ≡ 64
 
 -- an answer, and the list of the state beside it
 abbrev pub seen : {A : Type 0} → Outcome A × Queue → Outcome A × Queued

@@ -1,4 +1,5 @@
 pub mod Queueable
+pub mod Number
 pub mod Queue
 pub mod Ring
 pub mod Admission
@@ -6,4 +7,4 @@ pub mod Turn
 pub mod Good
 pub mod Calls
 pub mod Progress
-pub mod Sent
+pub mod Made

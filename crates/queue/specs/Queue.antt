@@ -81,16 +81,16 @@ pub record Pop : Type 0 where
   pub took : List Code
   pub next : Queued
 
-abbrev popped : Pair → List Code → List Code → Option Code → Pop
-popped p took waiting held = record { pair = p; took = took; next = queued waiting held }
+abbrev popOf : Pair → List Code → List Code → Option Code → Pop
+popOf p took waiting held = record { pair = p; took = took; next = queued waiting held }
 
 -- the pair that a code is written as; what may wait or be held can be written, so padding stands for none
-abbrev pub sent : Outcome (Pair × ℕ) → Pair
-sent (answer x) = x .0
-sent (refused n) = pair 0x80 0x80
+abbrev pub pairWritten : Outcome (Pair × ℕ) → Pair
+pairWritten (answer x) = x .0
+pairWritten (refused n) = pair 0x80 0x80
 
 unfoldable pub pairOf : Code → Pair
-pairOf c = sent (writeCode c)
+pairOf c = pairWritten (writeCode c)
 
 abbrev pub byteOf : Code → ℕ
 byteOf c = pairOf c .0
@@ -102,26 +102,26 @@ isSingle c = eqb (byteLen c) 1
 -- backspace, and the command is then held; a last single code goes with 0x80
 abbrev pub popTwo : Code → Code → List Code → Pop
 popTwo x y rest =
-    cond (isSingle y) (popped (pair (byteOf x) (byteOf y)) (x ∷ y ∷ []) rest none)
-    (popped (pair (byteOf x) (cond (needsBackspace y) 0x20 0x80)) (x ∷ []) rest (some y))
+    cond (isSingle y) (popOf (pair (byteOf x) (byteOf y)) (x ∷ y ∷ []) rest none)
+    (popOf (pair (byteOf x) (cond (needsBackspace y) 0x20 0x80)) (x ∷ []) rest (some y))
 
 abbrev pub popSingle : Code → List Code → Pop
-popSingle x [] = popped (pair (byteOf x) 0x80) (x ∷ []) [] none
+popSingle x [] = popOf (pair (byteOf x) 0x80) (x ∷ []) [] none
 popSingle x (y ∷ rest) = popTwo x y rest
 
 -- with no single code before it, a command that needs a backspace is held and 20 80 goes out; any other goes out
 abbrev pub popCommand : Code → List Code → Pop
 popCommand x rest =
-    cond (needsBackspace x) (popped (pair 0x20 0x80) [] rest (some x)) (popped (pairOf x) (x ∷ []) rest none)
+    cond (needsBackspace x) (popOf (pair 0x20 0x80) [] rest (some x)) (popOf (pairOf x) (x ∷ []) rest none)
 
 -- empty gives 80 80
 abbrev pub popWaiting : List Code → Pop
-popWaiting [] = popped (pair 0x80 0x80) [] [] none
+popWaiting [] = popOf (pair 0x80 0x80) [] [] none
 popWaiting (x ∷ rest) = cond (isSingle x) (popSingle x rest) (popCommand x rest)
 
 -- first of all the held code
 abbrev pub popHeld : Option Code → List Code → Pop
-popHeld (some c) waiting = popped (pairOf c) (c ∷ []) waiting none
+popHeld (some c) waiting = popOf (pairOf c) (c ∷ []) waiting none
 popHeld none waiting = popWaiting waiting
 
 unfoldable pub pop : Queued → Pop

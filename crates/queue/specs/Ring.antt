@@ -8,8 +8,8 @@ use lib.Dec.{leb, ltb}
 use lib.ListN.{getD, length, replicate, set}
 use Rattle.code.specs.Outcome.{Outcome, answer, refused}
 use Rattle.code.specs.declared.code.Code.{Code}
-use Rattle.code.specs.declared.code.Code.the-variants as code
 use Rattle.code.specs.declared.pair.Pair.{Pair}
+use Rattle.queue.specs.Number.{codeOf, numberOf}
 use Rattle.queue.specs.Queue.{Queued, queued, count, mayWait, mayBeHeld, admit, entered, pop}
 use Rattle.queue.specs.declared.count.CountAnswer.{CountAnswer}
 use Rattle.queue.specs.declared.count.CountAnswer.the-variants as count-answer
@@ -23,30 +23,25 @@ use Rattle.queue.specs.declared.push.Pushed.{Pushed}
 use Rattle.queue.specs.declared.ring.Held.{Held}
 use Rattle.queue.specs.declared.ring.Held.the-variants as held
 use Rattle.queue.specs.declared.ring.Queue.{Queue}
-use Rattle.queue.specs.declared.ring.Slot.{Slot}
 
-abbrev pub slot : Code → Slot
-slot c = record { code = c }
+-- the number and the code at a place, which wraps around at 64
+abbrev pub numberAt : List ℕ → ℕ → ℕ
+numberAt places at = getD places (at % 64) 0
 
--- the code at a place, which wraps around at 64
-abbrev pub codeAt : List Slot → ℕ → Code
-codeAt slots at = getD slots (at % 64) (slot code.Nul) .code
+abbrev pub codeAt : List ℕ → ℕ → Code
+codeAt places at = codeOf (numberAt places at)
 
 -- the n codes from a place on
-abbrev pub codesFrom : List Slot → ℕ → ℕ → List Code
-codesFrom slots at zero = []
-codesFrom slots at (suc n) = codeAt slots at ∷ codesFrom slots (at + 1) n
+abbrev pub codesFrom : List ℕ → ℕ → ℕ → List Code
+codesFrom places at zero = []
+codesFrom places at (suc n) = codeAt places at ∷ codesFrom places (at + 1) n
 
 abbrev pub waitingIn : Queue → List Code
-waitingIn q = codesFrom (q .slots) (q .start) (q .waiting)
+waitingIn q = codesFrom (q .places) (q .start) (q .waiting)
 
 abbrev pub heldIn : Held → Option Code
 heldIn held.Absent = none
-heldIn (held.Of c) = some c
-
-abbrev pub heldAs : Option Code → Held
-heldAs none = held.Absent
-heldAs (some c) = held.Of c
+heldIn (held.Of n) = some (codeOf n)
 
 -- the list that a ring stands for
 abbrev pub view : Queue → Queued
@@ -66,35 +61,51 @@ unfoldable pub wellFormed : Queue → Bool
 wellFormed q =
     ltb (q .start) 64 && leb (q .waiting) 64 && heldFits (heldIn (q .held)) && allMayWait (waitingIn q)
 
+-- the clauses that are not met by every number: those of the parts beside the places
+abbrev pub formedBy : ℕ → ℕ → Held → Bool
+formedBy start waiting held = ltb start 64 && leb waiting 64 && heldFits (heldIn held)
+
 -- of any call: an ill-formed state is refused, 12, and comes back as it was
 abbrev pub tested : {A : Type 0} → Queue → Outcome A × Queue → Outcome A × Queue
 tested q done = cond (wellFormed q) done (refused 12, q)
 
 abbrev pub freshRing : Queue
-freshRing = record { slots = replicate 64 (slot code.Nul); start = 0; waiting = 0; held = held.Absent }
+freshRing = record { places = replicate 64 0; start = 0; waiting = 0; held = held.Absent }
 
--- a code stored after those that wait
-abbrev pub stored : Queue → Code → Queue
-stored q c = record {
-  slots = set (q .slots) ((q .start + q .waiting) % 64) (slot c);
+-- a number, and so a code, stored at the place after the last
+abbrev pub storedNumber : Queue → ℕ → Queue
+storedNumber q n = record {
+  places = set (q .places) ((q .start + q .waiting) % 64) n;
   start = q .start;
   waiting = q .waiting + 1;
   held = q .held;
 }
 
+abbrev pub stored : Queue → Code → Queue
+stored q c = storedNumber q (numberOf c)
+
+-- of any state: where there is no such place nothing is stored, and nothing is lost
+abbrev pub storedWhereRoom : Queue → ℕ → Queue
+storedWhereRoom q n = cond (ltb (q .start) 64 && ltb (q .waiting) 64) (storedNumber q n) q
+
 unfoldable pub pushRing : Queue → Code → Outcome Unit × Queue
 pushRing q c = tested q (entered (admit c (q .waiting)) (stored q c) q)
 
--- a pop changes no place of the ring: as many at the front are free again as codes left the list
+-- a pop changes no place of the ring: as many at the front are free again as codes left the list, and a code that is now
+-- held is the last of them and keeps its number
 abbrev pub gone : Queue → ℕ
 gone q = length (waitingIn q) - length (pop (view q) .next .waiting)
 
+abbrev pub heldAs : ℕ → Option Code → Held
+heldAs n none = held.Absent
+heldAs n (some c) = held.Of n
+
 abbrev pub leftIn : Queue → Queue
 leftIn q = record {
-  slots = q .slots;
+  places = q .places;
   start = (q .start + gone q) % 64;
   waiting = q .waiting - gone q;
-  held = heldAs (pop (view q) .next .held);
+  held = heldAs (numberAt (q .places) (q .start + (gone q - 1))) (pop (view q) .next .held);
 }
 
 unfoldable pub popRing : Queue → Outcome Pair × Queue
@@ -116,7 +127,7 @@ abbrev pub pushOutcome : Pushed → Outcome Unit × Queue
 pushOutcome r = (pushAnswerOutcome (r .answer), r .queue)
 
 abbrev pub popAnswerOutcome : PopAnswer → Outcome Pair
-popAnswerOutcome (pop-answer.Sent p) = answer p
+popAnswerOutcome (pop-answer.Next p) = answer p
 popAnswerOutcome pop-answer.IllFormed = refused 12
 
 abbrev pub popOutcome : Popped → Outcome Pair × Queue

@@ -2,6 +2,7 @@
 // pop gives the next pair for the line. It knows pairs only by what the code layer promises.
 
 pub mod count;
+pub mod number;
 pub mod pop;
 pub mod push;
 pub mod queueable;
@@ -12,8 +13,9 @@ pub use count::CountAnswer;
 pub use count::Counted;
 pub use pop::PopAnswer;
 pub use pop::Popped;
+pub use pop::Turn;
+pub use push::Entry;
 pub use push::PushAnswer;
 pub use push::Pushed;
 pub use ring::Held;
 pub use ring::Queue;
-pub use ring::Slot;

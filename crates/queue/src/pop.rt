@@ -1,20 +1,19 @@
 // Taking the next pair for the line out of the queue.
-ghost use mathlib.Core.List.{[]};
-ghost use mathlib.Core.Option.{none, some};
 ghost use mathlib.Core.Path.{_≡_};
 ghost use Prim.Native.Nat.{_≤_, _<_};
-ghost use Rattle.queue.specs.Queue.{pairOf, popCommand, popSingle, popTwo, queued};
-ghost use Rattle.queue.specs.Ring.{popOutcome, popRing, waitingIn};
-ghost use Rattle.queue.specs.Turn.{freeing, turn, turnOf};
+ghost use Rattle.queue.specs.Ring.{popOutcome, popRing};
+ghost use Rattle.queue.specs.Turn.{commandTurn, freeing, frontTurn, singleTurn, turnOf};
+use crate::number::byte_of;
+use crate::number::is_single;
+use crate::number::needs_backspace;
+use crate::number::pair_of;
 use crate::ring::Held;
 use crate::ring::Queue;
-use code::Code;
 use code::Pair;
-use code::Written;
 
 // `IllFormed` is refusal 12.
 pub enum PopAnswer {
-    Sent(Pair),
+    Next(Pair),
     IllFormed,
 }
 
@@ -24,40 +23,19 @@ pub struct Popped {
 }
 
 // What a pop does: the pair that goes out, how many places it frees, and what is held afterwards.
-pub(crate) struct Turn {
+pub struct Turn {
     pub pair: Pair,
     pub freed: usize,
     pub held: Held,
 }
 
-// The pair that a code is sent as. A code that cannot be written is in no well-formed queue.
-pub(crate) fn pair_of(code: Code) -> Pair
-    ensures { λ r. ⌜ r ≡ pairOf code ⌝ }
-{
-    match code.write() {
-        Written::Made(pair, _) => pair,
-        Written::UnknownByte => Pair(0x80, 0x80),
-        Written::NoSuchRow => Pair(0x80, 0x80),
-    }
-}
-
-// The held code goes out first of all, and no place is freed.
-pub(crate) fn held_turn(code: Code) -> Turn
-    ensures { λ r. ⌜ r ≡ turn (queued [] (some code)) ⌝ }
-{
-    Turn {
-        pair: pair_of(code),
-        freed: 0,
-        held: Held::Absent,
-    }
-}
-
 // A command with no single code before it. One that needs a backspace is held, and a space goes out first: an extended
 // character replaces it, and a mid-row code, which replaces nothing, comes after it.
-pub(crate) fn command_turn(command: Code) -> Turn
-    ensures { λ r. ⌜ r ≡ turnOf 1 (popCommand command []) ⌝ }
+pub(crate) fn command_turn(command: u16) -> Turn
+    requires { ⌜ command < 0x8000 ⌝ }
+    ensures { λ r. ⌜ r ≡ commandTurn command ⌝ }
 {
-    if command.needs_backspace() {
+    if needs_backspace(command) {
         return Turn {
             pair: Pair(0x20, 0x80),
             freed: 1,
@@ -71,82 +49,74 @@ pub(crate) fn command_turn(command: Code) -> Turn
     }
 }
 
-// A single code with nothing after it.
-pub(crate) fn last_turn(code: Code) -> Turn
-    ensures { λ r. ⌜ r ≡ turnOf 1 (popSingle code []) ⌝ }
-{
-    let alone = pair_of(code);
-    Turn {
-        pair: Pair(alone.0, 0x80),
-        freed: 1,
-        held: Held::Absent,
-    }
-}
-
 // A single code and the code after it: both in one pair, or the first alone and the command after it held.
-pub(crate) fn single_turn(first: Code, second: Code) -> Turn
-    ensures { λ r. ⌜ r ≡ turnOf 2 (popTwo first second []) ⌝ }
+pub(crate) fn single_turn(first: u16, second: u16) -> Turn
+    requires { ⌜ 0x8000 ≤ first ⌝ }
+    ensures { λ r. ⌜ r ≡ singleTurn first second ⌝ }
 {
-    let sent = pair_of(first);
-    if second.byte_len() == 1 {
-        let beside = pair_of(second);
+    let sent = byte_of(first);
+    if is_single(second) {
         return Turn {
-            pair: Pair(sent.0, beside.0),
+            pair: Pair(sent, byte_of(second)),
             freed: 2,
             held: Held::Absent,
         };
     }
-    if second.needs_backspace() {
+    if needs_backspace(second) {
         return Turn {
-            pair: Pair(sent.0, 0x20),
+            pair: Pair(sent, 0x20),
             freed: 2,
             held: Held::Of(second),
         };
     }
     Turn {
-        pair: Pair(sent.0, 0x80),
+        pair: Pair(sent, 0x80),
         freed: 2,
         held: Held::Of(second),
     }
 }
 
+// The turn of a queue in which a code waits and none is held: by the first code, and by the second where another waits.
+pub(crate) fn front_turn(first: u16, second: u16, waiting: usize) -> Turn
+    requires { ⌜ 0 < waiting ⌝ }
+    ensures { λ r. ⌜ r ≡ frontTurn first second waiting ⌝ }
+{
+    if !is_single(first) {
+        return command_turn(first);
+    }
+    if waiting == 1 {
+        return Turn {
+            pair: Pair(byte_of(first), 0x80),
+            freed: 1,
+            held: Held::Absent,
+        };
+    }
+    single_turn(first, second)
+}
+
+// The turn of a queue by the numbers at its first two places, how many wait and what is held: the held code goes out
+// first of all, and padding where nothing waits.
+pub fn turn_of(first: u16, second: u16, waiting: usize, held: Held) -> Turn
+    ensures { λ r. ⌜ r ≡ turnOf first second waiting held ⌝ }
+{
+    if let Held::Of(number) = held {
+        return Turn {
+            pair: pair_of(number),
+            freed: 0,
+            held: Held::Absent,
+        };
+    }
+    if waiting == 0 {
+        return Turn {
+            pair: Pair(0x80, 0x80),
+            freed: 0,
+            held: Held::Absent,
+        };
+    }
+    front_turn(first, second, waiting)
+}
+
 impl Queue {
-    // The turn of a queue in which a code waits and none is held.
-    pub(crate) fn front_turn(self) -> Turn
-        requires { ⌜ (self .start < 64) × (self .waiting ≤ 64) × (0 < self .waiting) ⌝ }
-        ensures { λ r. ⌜ r ≡ turn (queued (waitingIn self) none) ⌝ }
-    {
-        let start = self.start;
-        let waiting = self.waiting;
-        let front = self.slots[start];
-        let first = front.code;
-        if first.byte_len() != 1 {
-            return command_turn(first);
-        }
-        if waiting == 1 {
-            return last_turn(first);
-        }
-        let behind = self.slots[(start + 1) % 64];
-        let second = behind.code;
-        single_turn(first, second)
-    }
-
-    // The turn of a queue that holds nothing: padding where nothing waits, and then no place of the ring is read.
-    pub(crate) fn waiting_turn(self) -> Turn
-        requires { ⌜ (self .start < 64) × (self .waiting ≤ 64) ⌝ }
-        ensures { λ r. ⌜ r ≡ turn (queued (waitingIn self) none) ⌝ }
-    {
-        let waiting = self.waiting;
-        if waiting == 0 {
-            return Turn {
-                pair: Pair(0x80, 0x80),
-                freed: 0,
-                held: Held::Absent,
-            };
-        }
-        self.front_turn()
-    }
-
     // The queue after a turn: the places of the codes that left are free again.
     pub(crate) fn freeing(self, turn: Turn) -> Queue
         requires { ⌜ (self .start < 64) × (self .waiting ≤ 64) × (turn .freed ≤ self .waiting) ⌝ }
@@ -154,11 +124,11 @@ impl Queue {
     {
         let start = self.start;
         let waiting = self.waiting;
-        let slots = self.slots;
+        let places = self.places;
         let freed = turn.freed;
         let held = turn.held;
         Queue {
-            slots: slots,
+            places: places,
             start: (start + freed) % 64,
             waiting: waiting - freed,
             held: held,
@@ -175,14 +145,15 @@ impl Queue {
                 queue: self,
             };
         }
+        let start = self.start;
+        let waiting = self.waiting;
         let held = self.held;
-        let turn = match held {
-            Held::Of(code) => held_turn(code),
-            Held::Absent => self.waiting_turn(),
-        };
+        let first = self.places[start];
+        let second = self.places[(start + 1) % 64];
+        let turn = turn_of(first, second, waiting, held);
         let pair = turn.pair;
         Popped {
-            answer: PopAnswer::Sent(pair),
+            answer: PopAnswer::Next(pair),
             queue: self.freeing(turn),
         }
     }

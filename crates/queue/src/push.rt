@@ -1,14 +1,14 @@
 // Putting a code into the queue.
 ghost use mathlib.Core.Path.{_≡_};
 ghost use Prim.Native.Nat.{_<_};
-ghost use Rattle.queue.specs.Admission.{admissionOutcome, verdictOutcome};
-ghost use Rattle.queue.specs.Queue.{admitBy, isFull};
-ghost use Rattle.queue.specs.Ring.{pushOutcome, pushRing, stored};
+ghost use Rattle.queue.specs.Admission.{entryFor, entryOutcome};
+ghost use Rattle.queue.specs.Queue.{isNul};
+ghost use Rattle.queue.specs.Ring.{pushOutcome, pushRing, storedWhereRoom};
 use crate::queueable::Verdict;
 use crate::queueable::queueable;
+use crate::ring::Held;
 use crate::ring::Queue;
-use crate::ring::Slot;
-use crate::well_formed::is_nul;
+use crate::well_formed::is_formed;
 use code::Code;
 
 // `UnknownByte` is refusal 2, `NoSuchRow` refusal 3, `NotACommand` refusal 18, `Full` refusal 7, `IllFormed` refusal 12.
@@ -27,96 +27,89 @@ pub struct Pushed {
     pub answer: PushAnswer,
 }
 
-// Whether a code is stored, passed over as NUL is, or refused.
-pub(crate) enum Admission {
-    Stored,
-    NotStored,
-    UnknownByte,
-    NoSuchRow,
-    NotACommand,
-    Full,
+// What a push does to the ring: it stores a number and is accepted, or it leaves the ring as it is and gives the answer.
+pub enum Entry {
+    Stored(u16),
+    Unchanged(PushAnswer),
 }
 
-// What becomes of a code: NUL passes even where the queue is full, and 2, 3 and 18 are tested before 7.
-pub(crate) fn admission_of(nul: bool, verdict: Verdict, full: bool) -> Admission
-    ensures { λ r. ⌜ admissionOutcome r ≡ admitBy nul (verdictOutcome verdict) full ⌝ }
+// Whether a code is padding.
+pub(crate) fn is_nul(code: Code) -> bool
+    ensures { λ r. ⌜ r ≡ isNul code ⌝ }
 {
-    if nul {
-        return Admission::NotStored;
+    match code {
+        Code::Nul => true,
+        Code::Control(_) => false,
+        Code::Letter(_) => false,
+        Code::Unknown(_) => false,
     }
-    match verdict {
-        Verdict::Passes => {
-            if full {
-                Admission::Full
+}
+
+// What becomes of a code, by the parts of the queue but its places. 12 is tested first; NUL passes even where the queue
+// is full; 2, 3 and 18 are tested before 7.
+pub fn entry_for(start: usize, waiting: usize, held: Held, code: Code) -> Entry
+    ensures { λ r. ⌜ entryOutcome r ≡ entryFor start waiting held code ⌝ }
+{
+    if !is_formed(start, waiting, held) {
+        return Entry::Unchanged(PushAnswer::IllFormed);
+    }
+    if is_nul(code) {
+        return Entry::Unchanged(PushAnswer::Accepted);
+    }
+    match queueable(code) {
+        Verdict::Passes(number) => {
+            if 64 <= waiting {
+                Entry::Unchanged(PushAnswer::Full)
             } else {
-                Admission::Stored
+                Entry::Stored(number)
             }
         }
-        Verdict::UnknownByte => Admission::UnknownByte,
-        Verdict::NoSuchRow => Admission::NoSuchRow,
-        Verdict::NotACommand => Admission::NotACommand,
+        Verdict::UnknownByte => Entry::Unchanged(PushAnswer::UnknownByte),
+        Verdict::NoSuchRow => Entry::Unchanged(PushAnswer::NoSuchRow),
+        Verdict::NotACommand => Entry::Unchanged(PushAnswer::NotACommand),
     }
 }
 
 impl Queue {
-    // Whether 64 codes are waiting. A held code is not counted among them.
-    pub(crate) fn is_full(self) -> bool
-        ensures { λ r. ⌜ r ≡ isFull (self .waiting) ⌝ }
-    {
-        let waiting = self.waiting;
-        64 <= waiting
-    }
-
-    // The queue with a code after those that wait, at the place after the last, wrapping around to place 0.
-    pub(crate) fn stored(self, code: Code) -> Queue
-        requires { ⌜ (self .start < 64) × (self .waiting < 64) ⌝ }
-        ensures { λ r. ⌜ r ≡ stored self code ⌝ }
+    // The queue with a number at the place after the last, wrapping around to place 0. Where there is no such place the
+    // queue comes back as it was.
+    pub fn stored(self, number: u16) -> Queue
+        ensures { λ r. ⌜ r ≡ storedWhereRoom self number ⌝ }
     {
         let start = self.start;
         let waiting = self.waiting;
-        let held = self.held;
-        let place = (start + waiting) % 64;
-        let mut slots = self.slots;
-        slots[place] = Slot { code: code };
-        let more = waiting + 1;
-        Queue {
-            slots: slots,
-            start: start,
-            waiting: more,
-            held: held,
+        if 64 <= start {
+            return self;
         }
+        if 64 <= waiting {
+            return self;
+        }
+        let place = (start + waiting) % 64;
+        let mut next = self;
+        next.places[place] = number;
+        next.waiting = waiting + 1;
+        next
     }
 
     // Puts a code after those that wait. NUL is accepted and not stored; a refusal hands the queue back as it was.
     pub fn push(self, code: Code) -> Pushed
         ensures { λ r. ⌜ pushOutcome r ≡ pushRing self code ⌝ }
     {
-        if !self.is_well_formed() {
-            return Pushed {
-                answer: PushAnswer::IllFormed,
-                queue: self,
-            };
-        }
-        let nul = is_nul(code);
-        let verdict = queueable(code);
-        let full = self.is_full();
-        let answer = match admission_of(nul, verdict, full) {
-            Admission::Stored => {
-                let next = self.stored(code);
-                return Pushed {
+        let start = self.start;
+        let waiting = self.waiting;
+        let held = self.held;
+        match entry_for(start, waiting, held, code) {
+            Entry::Stored(number) => {
+                let next = self.stored(number);
+                Pushed {
                     answer: PushAnswer::Accepted,
                     queue: next,
-                };
+                }
             }
-            Admission::NotStored => PushAnswer::Accepted,
-            Admission::UnknownByte => PushAnswer::UnknownByte,
-            Admission::NoSuchRow => PushAnswer::NoSuchRow,
-            Admission::NotACommand => PushAnswer::NotACommand,
-            Admission::Full => PushAnswer::Full,
-        };
-        Pushed {
-            answer: answer,
-            queue: self,
+            Entry::Unchanged(answer) => Pushed {
+                answer: answer,
+                queue: self,
+            },
         }
     }
 }

@@ -1,84 +1,99 @@
-// Which codes may be queued.
+// Which codes may be queued, and the number of each that may.
 ghost use mathlib.Core.Path.{_≡_};
-ghost use Rattle.code.specs.Read.{isCommand};
+ghost use Prim.Native.Nat.{_≤_};
 ghost use Rattle.queue.specs.Admission.{verdictOutcome};
-ghost use Rattle.queue.specs.Queueable.{isDressed, isDressedControl, isQueueable, queueable};
+ghost use Rattle.queue.specs.Number.{fieldNumber, numbered, numberedControl, numberedUnknown, whoseNumber};
+use crate::number::bytes_number;
 use code::Code;
+use code::CodeField;
 use code::Control;
-use code::Domain;
+use code::ControlCode;
+use code::Pair;
+use code::RowBytes;
 
-// `UnknownByte` is refusal 2, `NoSuchRow` refusal 3, `NotACommand` refusal 18.
+// A code's number, or why it may not be queued: `UnknownByte` is refusal 2, `NoSuchRow` refusal 3, `NotACommand` refusal
+// 18.
 pub(crate) enum Verdict {
-    Passes,
+    Passes(u16),
     UnknownByte,
     NoSuchRow,
     NotACommand,
 }
 
-// Whether a byte is the first of a command: 10 to 1F.
-fn starts_command(byte: u8) -> bool
-    ensures { λ r. ⌜ r ≡ isCommand byte ⌝ }
+// The part of a command's number that its field makes.
+fn field_number(field: CodeField) -> u16
+    ensures { λ r. ⌜ r ≡ fieldNumber field ⌝ }
 {
-    if byte < 0x10 {
-        return false;
+    match field {
+        CodeField::Absent => 0,
+        CodeField::Of(named) => { if named.0 { 0x2000 } else { 0x4000 } }
     }
-    byte <= 0x1F
 }
 
-// Whether a control code is text dressed as a command. Only an `Unknown` can be.
-fn is_dressed_control(control: Control) -> bool
-    ensures { λ r. ⌜ r ≡ isDressedControl control ⌝ }
+// The part that its field and its channel make.
+fn whose_number(code: ControlCode) -> u16
+    ensures { λ r. ⌜ r ≡ whoseNumber code ⌝ }
+{
+    let field = code.field;
+    let channel = code.channel;
+    let number = field_number(field);
+    if channel.0 { number } else { number + 0x1000 }
+}
+
+// An `Unknown` of two bytes. Where its first byte is not 10 to 1F it is text dressed as a command.
+fn number_unknown(whose: u16, first: u8, second: u8) -> Verdict
+    requires { ⌜ whose ≤ 0x5000 ⌝ }
+    ensures { λ r. ⌜ verdictOutcome r ≡ numberedUnknown whose first second ⌝ }
+{
+    if 0x80 <= first {
+        return Verdict::UnknownByte;
+    }
+    if 0x80 <= second {
+        return Verdict::UnknownByte;
+    }
+    if first / 16 != 1 {
+        return Verdict::NotACommand;
+    }
+    Verdict::Passes(whose + 0x800 + bytes_number(Pair(first, second)))
+}
+
+// A control. Each kind by itself and not by `Control::bytes`: the compiler then keeps the control in registers.
+fn number_control(whose: u16, control: Control) -> Verdict
+    requires { ⌜ whose ≤ 0x5000 ⌝ }
+    ensures { λ r. ⌜ verdictOutcome r ≡ numberedControl whose control ⌝ }
 {
     match control {
-        Control::MidRow(_) => false,
-        Control::Symbol(_) => false,
-        Control::Command(_) => false,
-        Control::Tab(_) => false,
-        Control::Preamble(_) => false,
-        Control::Unknown(first, _) => !starts_command(first),
+        Control::MidRow(code) => Verdict::Passes(whose + bytes_number(code.bytes())),
+        Control::Symbol(symbol) => Verdict::Passes(whose + bytes_number(symbol.bytes())),
+        Control::Command(command) => Verdict::Passes(
+            whose + bytes_number(Pair(0x14, 0x20 + command.number())),
+        ),
+        Control::Tab(tab) => Verdict::Passes(whose + bytes_number(Pair(0x17, 0x20 + tab.number()))),
+        Control::Preamble(preamble) => match preamble.bytes() {
+            RowBytes::Are(bytes) => Verdict::Passes(whose + bytes_number(bytes)),
+            RowBytes::NoSuchRow => Verdict::NoSuchRow,
+        },
+        Control::Unknown(first, second) => number_unknown(whose, first, second),
     }
 }
 
-// Whether a code is text dressed as a command: two bytes that a receiver would read as two single codes.
-fn is_dressed(code: Code) -> bool
-    ensures { λ r. ⌜ r ≡ isDressed code ⌝ }
+// Whether a code may be queued, and its number. NUL passes; its number is never stored.
+pub(crate) fn queueable(code: Code) -> Verdict
+    ensures { λ r. ⌜ verdictOutcome r ≡ numbered code ⌝ }
 {
     match code {
-        Code::Nul => false,
+        Code::Nul => Verdict::Passes(0),
         Code::Control(command) => {
             let control = command.control;
-            is_dressed_control(control)
+            number_control(whose_number(command), control)
         }
-        Code::Letter(_) => false,
-        Code::Unknown(_) => false,
-    }
-}
-
-// Whether a code may be queued: it can be written, and is no text dressed as a command.
-pub(crate) fn queueable(code: Code) -> Verdict
-    ensures { λ r. ⌜ verdictOutcome r ≡ queueable code ⌝ }
-{
-    match code.domain() {
-        Domain::Inside => {
-            if is_dressed(code) {
-                Verdict::NotACommand
+        Code::Letter(letter) => Verdict::Passes(0x8020 + letter.place() as u16),
+        Code::Unknown(byte) => {
+            if byte < 0x80 {
+                Verdict::Passes(0x8080 + byte as u16)
             } else {
-                Verdict::Passes
+                Verdict::UnknownByte
             }
         }
-        Domain::UnknownByte => Verdict::UnknownByte,
-        Domain::NoSuchRow => Verdict::NoSuchRow,
-    }
-}
-
-// The same, without the number of the refusal.
-pub(crate) fn is_queueable(code: Code) -> bool
-    ensures { λ r. ⌜ r ≡ isQueueable code ⌝ }
-{
-    match queueable(code) {
-        Verdict::Passes => true,
-        Verdict::UnknownByte => false,
-        Verdict::NoSuchRow => false,
-        Verdict::NotACommand => false,
     }
 }

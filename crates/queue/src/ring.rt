@@ -1,22 +1,17 @@
-// The queue's state: a ring of 64 places whose freed places are used again, and one held code beside it.
+// The queue's state: a ring of 64 places whose freed places are used again, and one held code beside it. A code is kept
+// by its number.
 ghost use mathlib.Core.Path.{_≡_};
 ghost use Rattle.queue.specs.Ring.{freshRing};
-use code::Code;
-
-// One place of the ring.
-pub struct Slot {
-    pub code: Code,
-}
 
 // A command that the next pop sends, since the pair before it carried the single code or space that precedes it.
 pub enum Held {
     Absent,
-    Of(Code),
+    Of(u16),
 }
 
 // The waiting codes stand from `start` on, and wrap around to place 0 at the end.
 pub struct Queue {
-    pub slots: [Slot; 64],
+    pub places: [u16; 64],
     pub start: usize,
     pub waiting: usize,
     pub held: Held,
@@ -28,7 +23,7 @@ impl Queue {
         ensures { λ r. ⌜ r ≡ freshRing ⌝ }
     {
         Queue {
-            slots: [Slot { code: Code::Nul }; 64],
+            places: [0; 64],
             start: 0,
             waiting: 0,
             held: Held::Absent,

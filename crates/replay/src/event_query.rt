@@ -115,7 +115,7 @@ fn from_command(n: u8) -> [u8; 16] {
             out[1] = event_bytes::mode_number(m);
             out
         }
-        FromCommand::Nothing => one(0),
+        FromCommand::Absent => one(0),
     }
 }
 

@@ -2,14 +2,12 @@
 ghost use Prim.Native.Nat.{_<_};
 use crate::from_bytes;
 use crate::query::not_a_query;
-use crate::to_bytes;
 use code::Code;
 use queue::CountAnswer;
 use queue::Held;
 use queue::PopAnswer;
 use queue::PushAnswer;
 use queue::Queue;
-use queue::Slot;
 
 // An answer, and the queue as the query left it.
 pub(crate) struct QueueAnswered {
@@ -51,7 +49,7 @@ fn set(queue: Queue, asked: [u8; 16]) -> Queue {
         0x34 => Queue::new(),
         0x35 => with_start(queue, number(asked)),
         0x36 => with_waiting(queue, number(asked)),
-        0x37 => with_slot(queue, (asked[7] % 64) as usize, from_bytes::code(asked)),
+        0x37 => with_place(queue, (asked[3] % 64) as usize, two(asked[1], asked[2])),
         _ => with_held(queue, held(asked)),
     }
 }
@@ -61,8 +59,8 @@ fn get(queue: Queue, asked: [u8; 16]) -> [u8; 16] {
     let kind = asked[0];
     match kind {
         0x39 => numbers(queue),
-        0x3A => slot(queue, (asked[1] % 64) as usize),
-        0x3B => held_code(queue),
+        0x3A => place(queue, (asked[1] % 64) as usize),
+        0x3B => held_number(queue),
         _ => not_a_query(),
     }
 }
@@ -107,7 +105,7 @@ fn pop(queue: Queue) -> QueueAnswered {
 
 pub(crate) fn pop_bytes(answer: PopAnswer) -> [u8; 16] {
     match answer {
-        PopAnswer::Sent(pair) => {
+        PopAnswer::Next(pair) => {
             let mut out = [0u8; 16];
             out[1] = pair.0;
             out[2] = pair.1;
@@ -158,6 +156,11 @@ pub(crate) fn four(a: u8, b: u8, c: u8, d: u8) -> usize
     (a as usize) + (b as usize) * 256 + (c as usize) * 65536 + (d as usize) * 16777216
 }
 
+// Two bytes as a number, the lower first.
+fn two(a: u8, b: u8) -> u16 {
+    (a as u16) + (b as u16) * 256
+}
+
 // The number in the eight bytes after the kind.
 fn number(asked: [u8; 16]) -> usize {
     let low = four(asked[1], asked[2], asked[3], asked[4]);
@@ -177,20 +180,20 @@ fn with_waiting(queue: Queue, waiting: usize) -> Queue {
     next
 }
 
-fn with_slot(queue: Queue, place: usize, code: Code) -> Queue
+fn with_place(queue: Queue, place: usize, number: u16) -> Queue
     requires { ⌜ place < 64 ⌝ }
 {
     let mut next = queue;
-    next.slots[place] = Slot { code: code };
+    next.places[place] = number;
     next
 }
 
 fn with_held(queue: Queue, held: Held) -> Queue {
-    let slots = queue.slots;
+    let places = queue.places;
     let start = queue.start;
     let waiting = queue.waiting;
     Queue {
-        slots: slots,
+        places: places,
         start: start,
         waiting: waiting,
         held: held,
@@ -198,8 +201,8 @@ fn with_held(queue: Queue, held: Held) -> Queue {
 }
 
 fn held(asked: [u8; 16]) -> Held {
-    if asked[7] == 1 {
-        Held::Of(from_bytes::code(asked))
+    if asked[3] == 1 {
+        Held::Of(two(asked[1], asked[2]))
     } else {
         Held::Absent
     }
@@ -243,41 +246,25 @@ fn numbers(queue: Queue) -> [u8; 16] {
     ]
 }
 
-// A code's six bytes, from a place of the answer on.
-fn code_at(first: u8, code: Code) -> [u8; 16] {
-    let c = to_bytes::code(code);
-    [
-        first,
-        c.kind,
-        c.field,
-        c.channel,
-        c.x,
-        c.y,
-        c.z,
-        0,
-        0,
-        0,
-        0,
-        0,
-        0,
-        0,
-        0,
-        0,
-    ]
+// A number's two bytes, the lower first, after a first byte.
+fn number_after(first: u8, number: u16) -> [u8; 16] {
+    let mut out = [0u8; 16];
+    out[0] = first;
+    out[1] = (number % 256) as u8;
+    out[2] = (number / 256) as u8;
+    out
 }
 
-fn slot(queue: Queue, place: usize) -> [u8; 16]
+fn place(queue: Queue, place: usize) -> [u8; 16]
     requires { ⌜ place < 64 ⌝ }
 {
-    let slot = queue.slots[place];
-    let code = slot.code;
-    code_at(0, code)
+    number_after(0, queue.places[place])
 }
 
-fn held_code(queue: Queue) -> [u8; 16] {
+fn held_number(queue: Queue) -> [u8; 16] {
     let held = queue.held;
     match held {
         Held::Absent => [0u8; 16],
-        Held::Of(code) => code_at(1, code),
+        Held::Of(number) => number_after(1, number),
     }
 }

@@ -59,6 +59,6 @@ fn heard_bytes(heard: Heard) -> [u8; 16] {
 fn field_number(field: LastField) -> u8 {
     match field {
         LastField::Known(f) => f.id(),
-        LastField::Unknown => 0,
+        LastField::Absent => 0,
     }
 }

@@ -10,6 +10,7 @@ use sender::DrainAnswer;
 use sender::Drained;
 use sender::IdleAnswer;
 use sender::Owed;
+use sender::Repeats;
 use sender::Sender;
 
 // An answer, and the sender as the query left it.
@@ -58,7 +59,7 @@ fn get(sender: Sender, kind: u8) -> [u8; 16] {
 // The answer to a query of the queue, which is the sender's.
 pub(crate) fn answer_by_queue(sender: Sender, asked: [u8; 16]) -> SenderAnswered {
     let queue = sender.queue;
-    let owed = sender.owed;
+    let repeats = sender.repeats;
     let answered = queue_query::answer(queue, asked);
     let bytes = answered.answer;
     let next = answered.queue;
@@ -66,7 +67,7 @@ pub(crate) fn answer_by_queue(sender: Sender, asked: [u8; 16]) -> SenderAnswered
         bytes,
         Sender {
             queue: next,
-            owed: owed,
+            repeats: repeats,
         },
     )
 }
@@ -122,7 +123,7 @@ fn with_owed(sender: Sender, owed: Owed) -> Sender {
     let queue = sender.queue;
     Sender {
         queue: queue,
-        owed: owed,
+        repeats: Repeats { owed: owed },
     }
 }
 
@@ -135,7 +136,8 @@ fn owed(asked: [u8; 16]) -> Owed {
 }
 
 fn owed_pair(sender: Sender) -> [u8; 16] {
-    let owed = sender.owed;
+    let repeats = sender.repeats;
+    let owed = repeats.owed;
     let mut out = [0u8; 16];
     match owed {
         Owed::Absent => out,

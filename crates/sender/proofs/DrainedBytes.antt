@@ -14,8 +14,7 @@ use Rattle.code.specs.declared.pair.Pair.{Pair}
 use Rattle.sender.proofs.Lent.{drained-as}
 use Rattle.sender.specs.Drain.{bytesOf, drainSender, drained, drainedPairs, filled}
 use Rattle.sender.specs.Sender.{view, wellFormed}
-use Rattle.sender.specs.SendsLeft.{afterSends}
-use Rattle.sender.specs.Sending.{Sending, isIdle, send}
+use Rattle.sender.specs.Sending.{Sending, isIdle, send, sendTimes}
 use Rattle.sender.specs.declared.sender.Sender.{Sender}
 
 -- it makes no more sends than its limit, and writes no more bytes than there is room for
@@ -80,7 +79,7 @@ module _ (out : List ℕ) (start : ℕ) (ps : List Pair) (inside : start ≤ len
 -- where it stopped: at the limit, with less than a pair of room, or idle
 abbrev pub Stopped : ℕ → ℕ → Sending → List Pair → Type 0
 Stopped limit room v ps =
-    (length ps ≡ limit) ⊎ ((room - length (bytesOf ps) < 2) ⊎ (isIdle (afterSends (length ps) v) ≡ true))
+    (length ps ≡ limit) ⊎ ((room - length (bytesOf ps) < 2) ⊎ (isIdle (sendTimes (length ps) v) ≡ true))
 
 pub why-it-stopped : (limit room : ℕ) (v : Sending) → Stopped limit room v (drainedPairs limit room v)
 why-it-stopped zero room v = inl refl
@@ -93,9 +92,9 @@ why-it-stopped (suc limit) (suc (suc room)) v =
     unless-idle true e ps later = inr (inr e)
     unless-idle false e ps later =
         ⊎-elim (λ (h : length ps ≡ limit). inl (ap suc h))
-        (λ (h : (room - length (bytesOf ps) < 2) ⊎ (isIdle (afterSends (length ps) (send v .next)) ≡ true)).
+        (λ (h : (room - length (bytesOf ps) < 2) ⊎ (isIdle (sendTimes (length ps) (send v .next)) ≡ true)).
         ⊎-elim (λ (x : room - length (bytesOf ps) < 2). inr (inl (omega (arith, x))))
-        (λ (x : isIdle (afterSends (length ps) (send v .next)) ≡ true). inr (inr x)) h)
+        (λ (x : isIdle (sendTimes (length ps) (send v .next)) ≡ true). inr (inr x)) h)
         later
 
 -- the same of the drain itself, from a well-formed state and with the start inside the output

@@ -12,11 +12,11 @@ use Rattle.code.proofs.OneAnswer.{same}
 use Rattle.code.specs.Outcome.{Outcome, answer}
 use Rattle.code.specs.declared.pair.Pair.{Pair}
 use Rattle.sender.proofs.Refines.{sent-pair, sent-view}
-use Rattle.sender.specs.Drain.{bytesOf, drainedPairs, filled, sendTimes}
-use Rattle.sender.specs.Next.{filling, nextOutcome}
+use Rattle.sender.specs.Drain.{bytesOf, drainedPairs, filled, sendSenderTimes}
+use Rattle.sender.proofs.Steps.{step-is-the-send, stepIn}
+use Rattle.sender.specs.Next.{filling, moved}
 use Rattle.sender.specs.Sender.{sendSender, view, wellFormed}
 use Rattle.sender.specs.Sending.{Sending, isIdle, send}
-use Rattle.sender.specs.declared.send.Next.{Next}
 use Rattle.sender.specs.declared.sender.Sender.{Sender}
 
 -- the pairs that are left to send: none at the limit, out of room or idle, else one and those after it
@@ -80,7 +80,7 @@ module _ (part : List ℕ) (at : ℕ) (p : Pair) (room : 2 ≤ length part - at)
 
 -- the count of sends, the state and the part, once the pairs ps are sent from the place on
 abbrev onceSent : ℕ → Sender → List ℕ → ℕ → List Pair → ℕ × Sender × List ℕ
-onceSent sends s part at ps = (sends + length ps, sendTimes (length ps) s, take at part ++ filled (drop at part) ps)
+onceSent sends s part at ps = (sends + length ps, sendSenderTimes (length ps) s, take at part ++ filled (drop at part) ps)
 
 -- what the writer comes to
 abbrev pub comesTo : ℕ → ℕ → Sender → List ℕ → ℕ → ℕ × Sender × List ℕ
@@ -93,7 +93,7 @@ begun limit s part =
     let ps = drainedPairs limit (length part) (view s) in
     let counted : 0 + length ps ≡ length ps = omega arith in
     ap₂ (λ (n room : ℕ). onceSent 0 s part 0 (drainedPairs n room (view s))) all whole
-    ∙ ap {B = ℕ × Sender × List ℕ} (λ (n : ℕ). (n, sendTimes (length ps) s, filled part ps)) counted
+    ∙ ap {B = ℕ × Sender × List ℕ} (λ (n : ℕ). (n, sendSenderTimes (length ps) s, filled part ps)) counted
 
 none-left : (sends : ℕ) (s : Sender) (part : List ℕ) (at : ℕ) → onceSent sends s part at [] ≡ (sends, s, part)
 none-left sends s part at =
@@ -116,7 +116,7 @@ done-when-idle limit sends s part at e =
 turned : (sends : ℕ) (s : Sender) (part : List ℕ) (at : ℕ) (p : Pair) (ps : List Pair) → 2 ≤ length part - at → onceSent sends s part at (p ∷ ps) ≡ onceSent (sends + 1) (sendSender s .1) (storedAt part at p) (at + 2) ps
 turned sends s part at p ps room =
     let counted : sends + suc (length ps) ≡ sends + 1 + length ps = omega arith in
-    ap₂ {C = ℕ × Sender × List ℕ} (λ (n : ℕ) (l : List ℕ). (n, sendTimes (length ps) (sendSender s .1), l)) counted (filled-on part at p room ps)
+    ap₂ {C = ℕ × Sender × List ℕ} (λ (n : ℕ) (l : List ℕ). (n, sendSenderTimes (length ps) (sendSender s .1), l)) counted (filled-on part at p room ps)
 
 one-send : (limit sends : ℕ) (s : Sender) (part : List ℕ) (at : ℕ) → wellFormed s ≡ true → sends < limit → 2 ≤ length part - at → isIdle (view s) ≡ false → comesTo limit sends s part at ≡ comesTo limit (sends + 1) (sendSender s .1) (storedAt part at (send (view s) .pair)) (at + 2)
 one-send limit sends s part at formed more room busy =
@@ -130,9 +130,10 @@ one-send limit sends s part at formed more room busy =
     ∙ ap₂ (λ (n r : ℕ). onceSent (sends + 1) (sendSender s .1) next (at + 2) (drainedPairs n r (send (view s) .next))) fewer less
     ∙ ap (λ (v : Sending). onceSent (sends + 1) (sendSender s .1) next (at + 2) (drainedPairs (limit - (sends + 1)) (length next - (at + 2)) v)) (sym (sent-view s formed))
 
--- the same turn, with the next pair that the code found
-pub one-turn : (limit sends : ℕ) (s : Sender) (part : List ℕ) (at : ℕ) (r : Next) → wellFormed s ≡ true → nextOutcome r ≡ sendSender s → sends < limit → 2 ≤ length part - at → isIdle (view s) ≡ false → comesTo limit (sends + 1) (r .sender) (set (set part at (r .pair .0)) (at + 1) (r .pair .1)) (at + 2) ≡ comesTo limit sends s part at
-one-turn limit sends s part at r formed sent more room busy =
-    let told : _≡_ {A = Outcome Pair} (answer (r .pair)) (answer (send (view s) .pair)) = ap (λ (x : Outcome Pair × Sender). x .0) sent ∙ sent-pair s formed in
+-- the same turn, with the step that the code found
+pub one-turn : (limit sends : ℕ) (s : Sender) (part : List ℕ) (at : ℕ) → wellFormed s ≡ true → sends < limit → 2 ≤ length part - at → isIdle (view s) ≡ false → comesTo limit (sends + 1) (moved s (stepIn s)) (set (set part at (stepIn s .pair .0)) (at + 1) (stepIn s .pair .1)) (at + 2) ≡ comesTo limit sends s part at
+one-turn limit sends s part at formed more room busy =
+    let sent = step-is-the-send s formed in
+    let told : _≡_ {A = Outcome Pair} (answer (stepIn s .pair)) (answer (send (view s) .pair)) = ap (λ (x : Outcome Pair × Sender). x .0) sent ∙ sent-pair s formed in
     ap₂ (λ (x : Sender) (p : Pair). comesTo limit (sends + 1) x (storedAt part at p) (at + 2)) (ap (λ (x : Outcome Pair × Sender). x .1) sent) (same told)
     ∙ sym (one-send limit sends s part at formed more room busy)

@@ -3,25 +3,23 @@
 -- Assumes nothing.
 use mathlib.Core.Bool.{Bool, true, false, not}
 use mathlib.Core.List.{List, [], _∷_, _++_, append-nil, map}
-use mathlib.Core.Option.{none}
 use mathlib.Core.Path.{_≡_, refl, ap, sym, _∙_}
 use Prim.Native.Nat.{ℕ}
 use native.Mathlib.Omega.{arith}
 use Rattle.code.proofs.Both.{both-left, both-right}
 use Rattle.code.specs.Outcome.{Outcome}
 use Rattle.code.specs.declared.pair.Pair.{Pair}
-use Rattle.queue.specs.Queue.{empty}
 use Rattle.sender.proofs.Answers.{sender-answers-as-the-lists}
 use Rattle.sender.proofs.Lent.{ill-formed-drain}
 use Rattle.sender.proofs.Refines.{fresh-good, ill-formed-count, ill-formed-idle, ill-formed-push, ill-formed-send}
 use Rattle.sender.specs.Calls.{Call, pushing, sending, draining, counting, asking, resetting}
-use Rattle.sender.specs.Replies.{Reply, toAsk, toCount, toDrain, toPush, toReset, toSend, isReset, listReplies, noReset, onSender, refusal, senderAfter, senderReplies}
+use Rattle.sender.specs.Replies.{Reply, toAsk, toCount, toDrain, toPush, toReset, toSend, isReset, listReplies, noReset, onSender, illFormedReply, senderAfter, senderReplies}
 use Rattle.sender.specs.Sender.{freshSender, wellFormed}
-use Rattle.sender.specs.Sending as lists
+use Rattle.sender.specs.Sending.{emptyLists}
 use Rattle.sender.specs.declared.sender.Sender.{Sender}
 
 -- one call
-pub call-refused : (c : Call) (s : Sender) → wellFormed s ≡ false → not (isReset c) ≡ true → onSender c s ≡ (refusal c, s)
+pub call-refused : (c : Call) (s : Sender) → wellFormed s ≡ false → not (isReset c) ≡ true → onSender c s ≡ (illFormedReply c, s)
 call-refused (pushing x) s e stays =
     ap {B = Reply × Sender} (λ (r : Outcome Unit × Sender). (toPush (r .0), r .1)) (ill-formed-push s x e)
 call-refused sending s e stays =
@@ -42,20 +40,20 @@ unchanged-without-reset (c ∷ cs) s e no-reset =
     ∙ unchanged-without-reset cs s e (both-right (not (isReset c)) (noReset cs) no-reset)
 
 -- and are refused, each of them, whatever comes after
-refused-before : (cs later : List Call) (s : Sender) → wellFormed s ≡ false → noReset cs ≡ true → senderReplies (cs ++ later) s ≡ map refusal cs ++ senderReplies later s
+refused-before : (cs later : List Call) (s : Sender) → wellFormed s ≡ false → noReset cs ≡ true → senderReplies (cs ++ later) s ≡ map illFormedReply cs ++ senderReplies later s
 refused-before [] later s e no-reset = refl
 refused-before (c ∷ cs) later s e no-reset =
     ap (λ (r : Reply × Sender). r .0 ∷ senderReplies (cs ++ later) (r .1)) (call-refused c s e (both-left (not (isReset c)) (noReset cs) no-reset))
-    ∙ ap (λ (l : List Reply). refusal c ∷ l) (refused-before cs later s e (both-right (not (isReset c)) (noReset cs) no-reset))
+    ∙ ap (λ (l : List Reply). illFormedReply c ∷ l) (refused-before cs later s e (both-right (not (isReset c)) (noReset cs) no-reset))
 
-pub refused-without-reset : (cs : List Call) (s : Sender) → wellFormed s ≡ false → noReset cs ≡ true → senderReplies cs s ≡ map refusal cs
+pub refused-without-reset : (cs : List Call) (s : Sender) → wellFormed s ≡ false → noReset cs ≡ true → senderReplies cs s ≡ map illFormedReply cs
 refused-without-reset cs s e no-reset =
     ap (λ (l : List Call). senderReplies l s) (sym (append-nil cs))
     ∙ refused-before cs [] s e no-reset
-    ∙ append-nil (map refusal cs)
+    ∙ append-nil (map illFormedReply cs)
 
 -- up to the first reset refusals, from it on the replies of the empty lists
-pub as-the-empty-lists-from-reset : (before later : List Call) (s : Sender) → wellFormed s ≡ false → noReset before ≡ true → senderReplies (before ++ (resetting ∷ later)) s ≡ map refusal before ++ (toReset ∷ listReplies later (lists.sending empty none))
+pub as-the-empty-lists-from-reset : (before later : List Call) (s : Sender) → wellFormed s ≡ false → noReset before ≡ true → senderReplies (before ++ (resetting ∷ later)) s ≡ map illFormedReply before ++ (toReset ∷ listReplies later emptyLists)
 as-the-empty-lists-from-reset before later s e no-reset =
     refused-before before (resetting ∷ later) s e no-reset
-    ∙ ap (λ (l : List Reply). map refusal before ++ (toReset ∷ l)) (sender-answers-as-the-lists later freshSender fresh-good)
+    ∙ ap (λ (l : List Reply). map illFormedReply before ++ (toReset ∷ l)) (sender-answers-as-the-lists later freshSender fresh-good)

@@ -4,10 +4,10 @@ pub mod ExactlySoMany
 pub mod Filling
 pub mod IllFormed
 pub mod Lent
-pub mod NextPair
 pub mod NothingLeft
 pub mod OneAnswer
 pub mod Order
-pub mod OwedFits
 pub mod Refines
+pub mod RepeatsFit
 pub mod SendsLeft
+pub mod Steps

@@ -1,49 +1,50 @@
 -- A sender is idle by three tests: no code waits, none is held, nothing is owed. The ring's list is as long as its number
 -- of waiting codes, whatever state was handed in.
 -- Assumes nothing.
-use mathlib.Core.Bool.{Bool, false, _&&_}
-use mathlib.Core.Path.{_≡_, refl, ap, ap₂, _∙_}
-use Prim.Native.Nat.{ℕ, _+_}
+use mathlib.Core.Bool.{Bool, true, false, _&&_}
+use mathlib.Core.Path.{_≡_, refl, ap, ap₂, sym, _∙_}
+use Prim.Native.Nat.{ℕ, zero, suc, _+_}
 use native.Mathlib.Omega.{arith}
 use borrow.Author.Tests.{ne-eqb}
 use lib.Dec.{eqb}
 use lib.ListN.{length}
-use Rattle.code.specs.declared.code.Code.{Code}
 use Rattle.queue.proofs.Places.{how-many}
 use Rattle.queue.specs.Queue.{heldCodes}
 use Rattle.queue.specs.Ring.{heldIn}
 use Rattle.queue.specs.declared.ring.Held.{Held}
 use Rattle.queue.specs.declared.ring.Held.the-variants as held
-use Rattle.sender.specs.Sender.{owedIn, view}
+use Rattle.sender.specs.Next.{noneHeld, nothingLeft}
+use Rattle.sender.specs.Sender.{view}
 use Rattle.sender.specs.Sending.{isIdle, noneOwed}
 use Rattle.sender.specs.declared.sender.Owed.{Owed}
+use Rattle.sender.specs.declared.sender.Repeats.{Repeats}
 use Rattle.sender.specs.declared.sender.Sender.{Sender}
 
--- idle, of a number of waiting codes, a held one and an owed pair
-abbrev idleWith : ℕ → Held → Owed → Bool
-idleWith n h o = eqb (n + length (heldCodes (heldIn h))) 0 && noneOwed (owedIn o)
+-- no code at all: none waits and none is held
+no-codes : (n : ℕ) (h : Held) → eqb (n + length (heldCodes (heldIn h))) 0 ≡ (eqb n 0 && noneHeld h)
+no-codes zero held.Absent = refl
+no-codes zero (held.Of k) = refl
+no-codes (suc n) h =
+    ne-eqb (suc n + length (heldCodes (heldIn h))) 0 (λ e. omega (arith, e))
+    ∙ sym (ap (λ (t : Bool). t && noneHeld h) (ne-eqb (suc n) 0 (λ e. omega (arith, e))))
 
-idle-is : (s : Sender) → isIdle (view s) ≡ idleWith (s .queue .waiting) (s .queue .held) (s .owed)
-idle-is s =
-    ap (λ (n : ℕ). idleWith n (s .queue .held) (s .owed))
-    (how-many (s .queue .slots) (s .queue .start) (s .queue .waiting))
+pub idle-by-parts : (s : Sender) → isIdle (view s) ≡ nothingLeft (s .queue .waiting) (s .queue .held) (s .repeats)
+idle-by-parts s =
+    ap (λ (n : ℕ). eqb (n + length (heldCodes (heldIn (s .queue .held)))) 0 && noneOwed (s .repeats .owed)) (how-many (s .queue .places) (s .queue .start) (s .queue .waiting))
+    ∙ ap (λ (t : Bool). t && noneOwed (s .repeats .owed)) (no-codes (s .queue .waiting) (s .queue .held))
 
-some-code : (n : ℕ) (h : Held) (o : Owed) → (n + length (heldCodes (heldIn h)) ≡ 0 → ⊥) → idleWith n h o ≡ false
-some-code n h o more = rw (ne-eqb (n + length (heldCodes (heldIn h))) 0 more) refl
+-- the tests one after the other
+pub some-wait : (n : ℕ) (h : Held) (r : Repeats) → (n ≡ 0 → ⊥) → nothingLeft n h r ≡ false
+some-wait n h r more = rw (ne-eqb n 0 more) refl
 
-pub a-code-waits : (s : Sender) → (s .queue .waiting ≡ 0 → ⊥) → isIdle (view s) ≡ false
-a-code-waits s more =
-    idle-is s ∙ some-code (s .queue .waiting) (s .queue .held) (s .owed) (λ e. more (omega arith))
+none-of-both : (t : Bool) → (t && false) ≡ false
+none-of-both true = refl
+none-of-both false = refl
 
-pub a-code-is-held : (s : Sender) (c : Code) → s .queue .held ≡ held.Of c → isIdle (view s) ≡ false
-a-code-is-held s c e =
-    idle-is s
-    ∙ ap (λ (h : Held). idleWith (s .queue .waiting) h (s .owed)) e
-    ∙ some-code (s .queue .waiting) (held.Of c) (s .owed) (λ z. omega arith)
+pub a-code-is-held : (n : ℕ) (h : Held) (r : Repeats) (k : ℕ) → h ≡ held.Of k → nothingLeft n h r ≡ false
+a-code-is-held n h r k e =
+    ap (λ (x : Held). nothingLeft n x r) e ∙ ap (λ (t : Bool). t && noneOwed (r .owed)) (none-of-both (eqb n 0))
 
--- with no code left, what is owed decides
-pub no-code-is-left : (s : Sender) (o : Owed) → s .queue .waiting ≡ 0 → s .queue .held ≡ held.Absent → s .owed ≡ o → isIdle (view s) ≡ noneOwed (owedIn o)
-no-code-is-left s o none absent owed =
-    idle-is s
-    ∙ ap₂ (λ (n : ℕ) (h : Held). idleWith n h (s .owed)) none absent
-    ∙ ap (λ (x : Owed). noneOwed (owedIn x)) owed
+pub no-code-left : (n : ℕ) (h : Held) (r : Repeats) (o : Owed) → n ≡ 0 → h ≡ held.Absent → r .owed ≡ o → nothingLeft n h r ≡ noneOwed o
+no-code-left n h r o none absent owed =
+    ap₂ (λ (k : ℕ) (x : Held). nothingLeft k x r) none absent ∙ ap noneOwed owed

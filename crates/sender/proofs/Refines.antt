@@ -2,9 +2,8 @@
 -- state that it leaves are the definition's next, and that state is good again. An ill-formed state is refused and comes
 -- back as it was.
 -- Assumes nothing.
-use mathlib.Core.Bool.{Bool, true, false}
-use mathlib.Core.Option.{Option, none, some}
-use mathlib.Core.Path.{_≡_, refl, ap, ap₂, sym, subst, _∙_}
+use mathlib.Core.Bool.{Bool, true, false, cond}
+use mathlib.Core.Path.{_≡_, refl, ap, sym, subst, _∙_}
 use native.Mathlib.Omega.{arith}
 use lib.ListN.{length}
 use Prim.Native.Nat.{ℕ}
@@ -25,23 +24,25 @@ use Rattle.queue.specs.Ring.{leftIn, popRing, pushRing}
 use Rattle.queue.specs.Ring as queue
 use Rattle.queue.specs.declared.ring.Queue.{Queue}
 use Rattle.sender.specs.Good.{Good}
-use Rattle.sender.specs.Sender.{countSender, freshSender, idleSender, owedAs, owedFits, owedIn, pushSender, queueAfter, sendSender, sender, view, wellFormed}
-use Rattle.sender.specs.Sending.{isIdle, push, repeatOf, send, sendOwed, sending}
+use Rattle.sender.specs.Sender.{countSender, freshSender, idleSender, pushSender, queueAfter, repeatsFit, sendSender, sender, view, wellFormed}
+use Rattle.sender.specs.Sending.{isIdle, noRepeat, push, repeating, repeatsAfter, send, sendOwed, sendingOf}
 use Rattle.sender.specs.declared.sender.Owed.{Owed}
+use Rattle.sender.specs.declared.sender.Owed.the-variants as owed
+use Rattle.sender.specs.declared.sender.Repeats.{Repeats}
 use Rattle.sender.specs.declared.sender.Sender.{Sender}
 
 -- the two clauses of 12
 pub queue-formed : (s : Sender) → wellFormed s ≡ true → queue.wellFormed (s .queue) ≡ true
 unfolding wellFormed
-queue-formed s e = both-left (queue.wellFormed (s .queue)) (owedFits (owedIn (s .owed))) e
+queue-formed s e = both-left (queue.wellFormed (s .queue)) (repeatsFit (s .repeats)) e
 
-pub owed-formed : (s : Sender) → wellFormed s ≡ true → owedFits (owedIn (s .owed)) ≡ true
+pub repeats-formed : (s : Sender) → wellFormed s ≡ true → repeatsFit (s .repeats) ≡ true
 unfolding wellFormed
-owed-formed s e = both-right (queue.wellFormed (s .queue)) (owedFits (owedIn (s .owed))) e
+repeats-formed s e = both-right (queue.wellFormed (s .queue)) (repeatsFit (s .repeats)) e
 
-pub well-formed : (q : Queue) (o : Owed) → queue.wellFormed q ≡ true → owedFits (owedIn o) ≡ true → wellFormed (sender q o) ≡ true
+pub well-formed : (q : Queue) (r : Repeats) → queue.wellFormed q ≡ true → repeatsFit r ≡ true → wellFormed (sender q r) ≡ true
 unfolding wellFormed
-well-formed q o formed fits = rw (formed, fits) refl
+well-formed q r formed fits = rw (formed, fits) refl
 
 queue-good : (s : Sender) → Good s → of-queue.Good (s .queue)
 queue-good s g = record { formed = queue-formed s (g .formed); places = g .places }
@@ -51,11 +52,11 @@ unfolding wellFormed queue.wellFormed
 fresh-good = record { formed = refl; places = refl }
 
 -- what a call leaves of a well-formed state
-pub pushed-as : (s : Sender) (c : Code) → wellFormed s ≡ true → pushSender s c ≡ (pushRing (s .queue) c .0, sender (pushRing (s .queue) c .1) (s .owed))
+pub pushed-as : (s : Sender) (c : Code) → wellFormed s ≡ true → pushSender s c ≡ (pushRing (s .queue) c .0, sender (pushRing (s .queue) c .1) (s .repeats))
 unfolding pushSender
 pushed-as s c e = rw e refl
 
-pub sent-as : (s : Sender) → wellFormed s ≡ true → sendSender s ≡ (answer (send (view s) .pair), sender (queueAfter (owedIn (s .owed)) (s .queue)) (owedAs (send (view s) .next .owed)))
+pub sent-as : (s : Sender) → wellFormed s ≡ true → sendSender s ≡ (answer (send (view s) .pair), sender (queueAfter (s .repeats .owed) (s .queue)) (send (view s) .next .repeats))
 unfolding sendSender
 sent-as s e = rw e refl
 
@@ -65,19 +66,18 @@ push-refines s c g =
     let done = pushed-as s c (g .formed) in
     let told = ring.push-refines (s .queue) c (queue-good s g) in (
       ap (λ (r : Outcome Unit × Sender). r .0) done ∙ ap (λ (r : Outcome Unit × Queued). r .0) told,
-      ap (λ (r : Outcome Unit × Sender). view (r .1)) done ∙ ap (λ (r : Outcome Unit × Queued). sending (r .1) (owedIn (s .owed))) told,
+      ap (λ (r : Outcome Unit × Sender). view (r .1)) done ∙ ap (λ (r : Outcome Unit × Queued). sendingOf (r .1) (s .repeats)) told,
     )
 
 pub push-good : (s : Sender) (c : Code) → Good s → Good (pushSender s c .1)
 push-good s c g =
     let next = ring.push-good (s .queue) c (queue-good s g) in
     subst (λ (r : Outcome Unit × Sender). Good (r .1)) (sym (pushed-as s c (g .formed)))
-    (record { formed = well-formed _ _ (next .formed) (owed-formed s (g .formed)); places = next .places })
+    (record { formed = well-formed _ _ (next .formed) (repeats-formed s (g .formed)); places = next .places })
 
 -- a send: what it leaves of the queue needs only that the queue is well formed
 popped-as : (q : Queue) → queue.wellFormed q ≡ true → popRing q .1 ≡ leftIn q
-unfolding popRing
-popped-as q e = rw e refl
+popped-as q e = ap (λ (r : Outcome Pair × Queue). r .1) (ring.popped-as q e)
 
 popped-view : (q : Queue) → queue.wellFormed q ≡ true → queue.view (popRing q .1) ≡ pop (queue.view q) .next
 popped-view q e = ap queue.view (popped-as q e) ∙ ring.view-of-left q
@@ -88,13 +88,9 @@ popped-formed q e =
     (omega (arith, ap (λ (r : Queue). r .start) (popped-as q e)))
     (subst Fit (sym (popped-view q e)) (pop-fits (queue.view q) (ring.good-fits q e)))
 
-owed-back : (o : Option Pair) → owedIn (owedAs o) ≡ o
-owed-back none = refl
-owed-back (some p) = refl
-
-view-after : (o : Option Pair) (q : Queue) → queue.wellFormed q ≡ true → sending (queue.view (queueAfter o q)) (owedIn (owedAs (sendOwed o (queue.view q) .next .owed))) ≡ sendOwed o (queue.view q) .next
-view-after (some p) q e = refl
-view-after none q e = ap₂ sending (popped-view q e) (owed-back (repeatOf (pop (queue.view q) .pair)))
+view-after : (o : Owed) (q : Queue) → queue.wellFormed q ≡ true → sendingOf (queue.view (queueAfter o q)) (sendOwed o (queue.view q) .next .repeats) ≡ sendOwed o (queue.view q) .next
+view-after (owed.Repeat p) q e = refl
+view-after owed.Absent q e = ap (λ (v : Queued). sendingOf v (repeatsAfter (pop (queue.view q) .pair))) (popped-view q e)
 
 pub sent-pair : (s : Sender) → wellFormed s ≡ true → sendSender s .0 ≡ answer (send (view s) .pair)
 sent-pair s e = ap (λ (r : Outcome Pair × Sender). r .0) (sent-as s e)
@@ -103,31 +99,31 @@ pub sent-view : (s : Sender) → wellFormed s ≡ true → view (sendSender s .1
 unfolding send
 sent-view s e =
     ap (λ (r : Outcome Pair × Sender). view (r .1)) (sent-as s e)
-    ∙ view-after (owedIn (s .owed)) (s .queue) (queue-formed s e)
+    ∙ view-after (s .repeats .owed) (s .queue) (queue-formed s e)
 
 -- a command pair of odd parity may be owed, and no other pair is
-repeat-by : (p : Pair) (t : Bool) → isCommandPair p ≡ t → SentPair p → owedFits (owedIn (owedAs (repeatOf p))) ≡ true
-repeat-by p true e odd = rw (e, odd .first .odd, odd .second .odd, e) refl
-repeat-by p false e odd = rw e refl
+repeat-by : (p : Pair) (t : Bool) → isCommandPair p ≡ t → SentPair p → repeatsFit (cond t (repeating p) noRepeat) ≡ true
+repeat-by p true e odd = rw (odd .first .odd, odd .second .odd, e) refl
+repeat-by p false e odd = refl
 
-repeat-fits : (q : Queue) → queue.wellFormed q ≡ true → owedFits (owedIn (owedAs (repeatOf (pop (queue.view q) .pair)))) ≡ true
+repeat-fits : (q : Queue) → queue.wellFormed q ≡ true → repeatsFit (repeatsAfter (pop (queue.view q) .pair)) ≡ true
 repeat-fits q e =
     let p = pop (queue.view q) .pair in
     repeat-by p (isCommandPair p) refl (popped-is-sent (queue.view q) (ring.good-fits q e))
 
-formed-after : (o : Option Pair) (q : Queue) → queue.wellFormed q ≡ true → wellFormed (sender (queueAfter o q) (owedAs (sendOwed o (queue.view q) .next .owed))) ≡ true
-formed-after (some p) q e = well-formed _ _ e refl
-formed-after none q e = well-formed _ _ (popped-formed q e) (repeat-fits q e)
+formed-after : (o : Owed) (q : Queue) → queue.wellFormed q ≡ true → wellFormed (sender (queueAfter o q) (sendOwed o (queue.view q) .next .repeats)) ≡ true
+formed-after (owed.Repeat p) q e = well-formed _ _ e refl
+formed-after owed.Absent q e = well-formed _ _ (popped-formed q e) (repeat-fits q e)
 
 pub sent-formed : (s : Sender) → wellFormed s ≡ true → wellFormed (sendSender s .1) ≡ true
 unfolding send
 sent-formed s e =
     ap (λ (r : Outcome Pair × Sender). wellFormed (r .1)) (sent-as s e)
-    ∙ formed-after (owedIn (s .owed)) (s .queue) (queue-formed s e)
+    ∙ formed-after (s .repeats .owed) (s .queue) (queue-formed s e)
 
-places-after : (o : Option Pair) (q : Queue) → queue.wellFormed q ≡ true → queueAfter o q .slots ≡ q .slots
-places-after (some p) q e = refl
-places-after none q e = ap (λ (r : Queue). r .slots) (popped-as q e)
+places-after : (o : Owed) (q : Queue) → queue.wellFormed q ≡ true → queueAfter o q .places ≡ q .places
+places-after (owed.Repeat p) q e = refl
+places-after owed.Absent q e = ap (λ (r : Queue). r .places) (popped-as q e)
 
 pub send-refines : (s : Sender) → Good s → (sendSender s .0 ≡ answer (send (view s) .pair)) × (view (sendSender s .1) ≡ send (view s) .next)
 send-refines s g = (sent-pair s (g .formed), sent-view s (g .formed))
@@ -135,7 +131,7 @@ send-refines s g = (sent-pair s (g .formed), sent-view s (g .formed))
 pub send-good : (s : Sender) → Good s → Good (sendSender s .1)
 send-good s g = record {
   formed = sent-formed s (g .formed);
-  places = ap (λ (r : Outcome Pair × Sender). length (r .1 .queue .slots)) (sent-as s (g .formed)) ∙ ap length (places-after (owedIn (s .owed)) (s .queue) (queue-formed s (g .formed))) ∙ g .places;
+  places = ap (λ (r : Outcome Pair × Sender). length (r .1 .queue .places)) (sent-as s (g .formed)) ∙ ap length (places-after (s .repeats .owed) (s .queue) (queue-formed s (g .formed))) ∙ g .places;
 }
 
 -- 12: the state comes back bit for bit
@@ -173,7 +169,7 @@ pushed-same s c n false e told = ap (λ (r : Outcome Unit × Sender). r .1) (ill
 pushed-same s c n true e told =
     let done = pushed-as s c e in
     let kept = ring.a-refused-push-changes-nothing (s .queue) c n (sym (ap (λ (r : Outcome Unit × Sender). r .0) done) ∙ told) in
-    ap (λ (r : Outcome Unit × Sender). r .1) done ∙ ap (λ (q : Queue). sender q (s .owed)) kept
+    ap (λ (r : Outcome Unit × Sender). r .1) done ∙ ap (λ (q : Queue). sender q (s .repeats)) kept
 
 pub a-refused-push-changes-nothing : (s : Sender) (c : Code) (n : ℕ) → pushSender s c .0 ≡ refused n → pushSender s c .1 ≡ s
 a-refused-push-changes-nothing s c n told = pushed-same s c n (wellFormed s) refl told

@@ -39,29 +39,29 @@ abbrev pub sendsIn : Outcome ℕ → ℕ
 sendsIn (answer n) = n
 sendsIn (refused k) = 0
 
-abbrev pub after : Call → History → History
-after (pushing c) h = record {
+abbrev pub recorded : Call → History → History
+recorded (pushing c) h = record {
   accepted = h .accepted ++ letIn c (pushSender (h .sender) c .0);
   took = h .took;
   sender = pushSender (h .sender) c .1;
 }
-after sending h = record {
+recorded sending h = record {
   accepted = h .accepted;
   took = h .took ++ takenBy (h .sender);
   sender = sendSender (h .sender) .1;
 }
-after (draining out start limit) h = record {
+recorded (draining out start limit) h = record {
   accepted = h .accepted;
   took = h .took ++ takenIn (sendsIn (drainSender (h .sender) out start limit .0)) (h .sender);
   sender = drainSender (h .sender) out start limit .1;
 }
-after counting h = record { accepted = h .accepted; took = h .took; sender = countSender (h .sender) .1 }
-after asking h = record { accepted = h .accepted; took = h .took; sender = idleSender (h .sender) .1 }
-after resetting h = record { accepted = []; took = []; sender = freshSender }
+recorded counting h = record { accepted = h .accepted; took = h .took; sender = countSender (h .sender) .1 }
+recorded asking h = record { accepted = h .accepted; took = h .took; sender = idleSender (h .sender) .1 }
+recorded resetting h = record { accepted = []; took = []; sender = freshSender }
 
-abbrev pub afterAll : List Call → History → History
-afterAll [] h = h
-afterAll (c ∷ cs) h = afterAll cs (after c h)
+abbrev pub recordedAll : List Call → History → History
+recordedAll [] h = h
+recordedAll (c ∷ cs) h = recordedAll cs (recorded c h)
 
 -- a history that begins with a state: what is inside it counts as accepted
 abbrev pub begun : Sender → History

@@ -22,9 +22,9 @@ drainedPairs (suc limit) (suc zero) s = []
 drainedPairs (suc limit) (suc (suc room)) s = cond (isIdle s) [] (send s .pair ∷ drainedPairs limit room (send s .next))
 
 -- the state after n sends
-abbrev pub sendTimes : ℕ → Sender → Sender
-sendTimes zero s = s
-sendTimes (suc n) s = sendTimes n (sendSender s .1)
+abbrev pub sendSenderTimes : ℕ → Sender → Sender
+sendSenderTimes zero s = s
+sendSenderTimes (suc n) s = sendSenderTimes n (sendSender s .1)
 
 abbrev pub bytesOf : List Pair → List ℕ
 bytesOf [] = []
@@ -36,7 +36,7 @@ filled part ps = bytesOf ps ++ drop (length (bytesOf ps)) part
 
 -- the count of sends, the state after them, and the output with their bytes from the start on
 abbrev pub drained : Sender → List ℕ → ℕ → List Pair → Outcome ℕ × Sender × List ℕ
-drained s out start ps = (answer (length ps), sendTimes (length ps) s, take start out ++ filled (drop start out) ps)
+drained s out start ps = (answer (length ps), sendSenderTimes (length ps) s, take start out ++ filled (drop start out) ps)
 
 unfoldable pub drainSender : Sender → List ℕ → ℕ → ℕ → Outcome ℕ × Sender × List ℕ
 drainSender s out start limit =

@@ -7,4 +7,4 @@ use Rattle.sender.specs.declared.sender.Sender.{Sender}
 
 pub record Good (s : Sender) : Type 0 where
   pub formed : wellFormed s ≡ true
-  pub places : length (s .queue .slots) ≡ 64
+  pub places : length (s .queue .places) ≡ 64

@@ -1,31 +1,68 @@
--- Contracts of helpers inside the crate, in the port's own words: a send from a well-formed state, and the writer of
--- pairs that the drain lends a part of the output to.
-use Prim.Native.Nat.{ℕ}
+-- Contracts of helpers inside the crate, in the port's own words: a send by the parts of a state, and the writer of pairs
+-- that the drain lends a part of the output to.
+use Prim.Native.Nat.{ℕ, _+_, _-_, _%_}
+use mathlib.Core.Bool.{Bool, true, false, _&&_}
 use mathlib.Core.List.{List}
+use lib.Dec.{eqb}
 use lib.ListN.{length}
-use Rattle.code.specs.Outcome.{Outcome, answer, refused}
-use Rattle.code.specs.Write.{pair}
 use Rattle.code.specs.declared.pair.Pair.{Pair}
-use Rattle.sender.specs.Drain.{drainedPairs, filled, sendTimes}
+use Rattle.queue.specs.Turn.{turnOf}
+use Rattle.queue.specs.declared.pop.Turn.{Turn}
+use Rattle.queue.specs.declared.ring.Held.{Held}
+use Rattle.queue.specs.declared.ring.Held.the-variants as held
+use Rattle.sender.specs.Drain.{drainedPairs, filled, sendSenderTimes}
 use Rattle.sender.specs.Sender.{view}
+use Rattle.sender.specs.Sending.{noRepeat, noneOwed, repeatsAfter}
 use Rattle.sender.specs.declared.drain.Progress.{Progress}
-use Rattle.sender.specs.declared.send.Next.{Next}
+use Rattle.sender.specs.declared.send.Step.{Step}
+use Rattle.sender.specs.declared.sender.Owed.{Owed}
+use Rattle.sender.specs.declared.sender.Owed.the-variants as owed
+use Rattle.sender.specs.declared.sender.Repeats.{Repeats}
 use Rattle.sender.specs.declared.sender.Sender.{Sender}
 
--- the pair of a pop, which a well-formed queue never refuses
-abbrev pub pairIn : Outcome Pair → Pair
-pairIn (answer p) = p
-pairIn (refused n) = pair 0x80 0x80
+-- what a send does, by what is owed and by the queue's turn
+abbrev pub stepBy : Owed → Held → Turn → Step
+stepBy (owed.Repeat p) h t = record { pair = p; freed = 0; held = h; repeats = noRepeat }
+stepBy owed.Absent h t = record { pair = t .pair; freed = t .freed; held = t .held; repeats = repeatsAfter (t .pair) }
 
-abbrev pub nextOutcome : Next → Outcome Pair × Sender
-nextOutcome r = (answer (r .pair), r .sender)
+abbrev pub stepOf : ℕ → ℕ → ℕ → Held → Repeats → Step
+stepOf first second waiting h r = stepBy (r .owed) h (turnOf first second waiting h)
+
+abbrev pub moved : Sender → Step → Sender
+moved s t = record {
+  queue = record {
+    places = s .queue .places;
+    start = (s .queue .start + t .freed) % 64;
+    waiting = s .queue .waiting - t .freed;
+    held = t .held;
+  };
+  repeats = t .repeats;
+}
+
+-- a state by its parts
+abbrev pub together : List ℕ → ℕ → ℕ → Held → Repeats → Sender
+together places start waiting h r = record {
+  queue = record { places = places; start = start; waiting = waiting; held = h };
+  repeats = r;
+}
+
+-- idle, by the parts of a state
+abbrev pub noneHeld : Held → Bool
+noneHeld held.Absent = true
+noneHeld (held.Of n) = false
+
+abbrev pub nothingLeft : ℕ → Held → Repeats → Bool
+nothingLeft waiting h r = eqb waiting 0 && noneHeld h && noneOwed (r .owed)
 
 -- the sends of these pairs: their count, the state after them, and the part with the pairs at its beginning
 abbrev pub filledBy : Sender → List ℕ → List Pair → ℕ × Sender × List ℕ
-filledBy s part ps = (length ps, sendTimes (length ps) s, filled part ps)
+filledBy s part ps = (length ps, sendSenderTimes (length ps) s, filled part ps)
 
 abbrev pub filling : Sender → List ℕ → ℕ → ℕ × Sender × List ℕ
 filling s part limit = filledBy s part (drainedPairs limit (length part) (view s))
 
-abbrev pub progressOutcome : Progress → List ℕ → ℕ × Sender × List ℕ
-progressOutcome r part = (r .sends, r .sender, part)
+abbrev pub senderAt : Sender → Progress → Sender
+senderAt s r = together (s .queue .places) (r .start) (r .waiting) (r .held) (r .repeats)
+
+abbrev pub progressOutcome : Sender → Progress → List ℕ → ℕ × Sender × List ℕ
+progressOutcome s r part = (r .sends, senderAt s r, part)

@@ -3,18 +3,15 @@
 use Prim.Native.Nat.{ℕ}
 use mathlib.Core.Bool.{Bool, true, false, cond, _&&_, not}
 use mathlib.Core.List.{List, [], _∷_, _++_}
-use mathlib.Core.Option.{none}
 use lib.Dec.{ltb}
 use lib.ListN.{drop, length, take}
 use Rattle.code.specs.Outcome.{Outcome, answer, refused}
 use Rattle.code.specs.declared.pair.Pair.{Pair}
-use Rattle.queue.specs.Queue.{count, empty}
+use Rattle.queue.specs.Queue.{count}
 use Rattle.sender.specs.Calls.{Call, pushing, sending, draining, counting, asking, resetting}
 use Rattle.sender.specs.Drain.{drainSender, drainedPairs, filled}
 use Rattle.sender.specs.Sender.{countSender, freshSender, idleSender, pushSender, sendSender}
-use Rattle.sender.specs.Sending.{Sending, isIdle, push, send}
-use Rattle.sender.specs.Sending as lists
-use Rattle.sender.specs.SendsLeft.{afterSends}
+use Rattle.sender.specs.Sending.{Sending, emptyLists, isIdle, push, send, sendTimes}
 use Rattle.sender.specs.declared.sender.Sender.{Sender}
 
 -- a drain's reply has its output too
@@ -38,7 +35,7 @@ onSender resetting s = (toReset, freshSender)
 
 -- a drain of the lists: 11, else its sends, and their pairs in the output from the start on
 abbrev pub drainedTo : List ℕ → ℕ → List Pair → Sending → Reply × Sending
-drainedTo out start ps v = (toDrain (answer (length ps)) (take start out ++ filled (drop start out) ps), afterSends (length ps) v)
+drainedTo out start ps v = (toDrain (answer (length ps)) (take start out ++ filled (drop start out) ps), sendTimes (length ps) v)
 
 abbrev pub drainLists : List ℕ → ℕ → ℕ → Sending → Reply × Sending
 drainLists out start limit v =
@@ -52,7 +49,7 @@ onLists sending v = (toSend (answer (send v .pair)), send v .next)
 onLists (draining out start limit) v = drainLists out start limit v
 onLists counting v = (toCount (answer (count (v .queue))), v)
 onLists asking v = (toAsk (answer (isIdle v)), v)
-onLists resetting v = (toReset, lists.sending empty none)
+onLists resetting v = (toReset, emptyLists)
 
 -- the replies to a sequence of calls
 abbrev pub senderReplies : List Call → Sender → List Reply
@@ -69,13 +66,13 @@ senderAfter [] s = s
 senderAfter (c ∷ cs) s = senderAfter cs (onSender c s .1)
 
 -- the reply that an ill-formed state is to get: 12 to every call but a reset, and every byte of a drain's output as it was
-abbrev pub refusal : Call → Reply
-refusal (pushing c) = toPush (refused 12)
-refusal sending = toSend (refused 12)
-refusal (draining out start limit) = toDrain (refused 12) out
-refusal counting = toCount (refused 12)
-refusal asking = toAsk (refused 12)
-refusal resetting = toReset
+abbrev pub illFormedReply : Call → Reply
+illFormedReply (pushing c) = toPush (refused 12)
+illFormedReply sending = toSend (refused 12)
+illFormedReply (draining out start limit) = toDrain (refused 12) out
+illFormedReply counting = toCount (refused 12)
+illFormedReply asking = toAsk (refused 12)
+illFormedReply resetting = toReset
 
 abbrev pub isReset : Call → Bool
 isReset (pushing c) = false

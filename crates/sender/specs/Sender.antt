@@ -2,7 +2,6 @@
 -- call leaves. The answers are the lists', from `Sending`.
 use Prim.Native.Nat.{ℕ}
 use mathlib.Core.Bool.{Bool, true, false, cond, _&&_}
-use mathlib.Core.Option.{Option, none, some}
 use Rattle.code.specs.Outcome.{Outcome, answer, refused}
 use Rattle.code.specs.Read.{isCommandPair, isOddPair}
 use Rattle.code.specs.declared.code.Code.{Code}
@@ -11,7 +10,7 @@ use Rattle.queue.specs.Queue.{count}
 use Rattle.queue.specs.Ring.{countAnswerOutcome, freshRing, popAnswerOutcome, popRing, pushAnswerOutcome, pushRing}
 use Rattle.queue.specs.Ring as ring
 use Rattle.queue.specs.declared.ring.Queue.{Queue}
-use Rattle.sender.specs.Sending.{Sending, isIdle, send, sending}
+use Rattle.sender.specs.Sending.{Sending, isIdle, noRepeat, send, sendingOf}
 use Rattle.sender.specs.declared.idle.IdleAnswer.{IdleAnswer}
 use Rattle.sender.specs.declared.idle.IdleAnswer.the-variants as idle-answer
 use Rattle.sender.specs.declared.idle.Idleness.{Idleness}
@@ -20,53 +19,49 @@ use Rattle.sender.specs.declared.push.Pushed.{Pushed}
 use Rattle.sender.specs.declared.send.Sent.{Sent}
 use Rattle.sender.specs.declared.sender.Owed.{Owed}
 use Rattle.sender.specs.declared.sender.Owed.the-variants as owed
+use Rattle.sender.specs.declared.sender.Repeats.{Repeats}
 use Rattle.sender.specs.declared.sender.Sender.{Sender}
-
-abbrev pub owedIn : Owed → Option Pair
-owedIn owed.Absent = none
-owedIn (owed.Repeat p) = some p
-
-abbrev pub owedAs : Option Pair → Owed
-owedAs none = owed.Absent
-owedAs (some p) = owed.Repeat p
 
 -- the lists that a state stands for
 abbrev pub view : Sender → Sending
-view s = sending (ring.view (s .queue)) (owedIn (s .owed))
+view s = sendingOf (ring.view (s .queue)) (s .repeats)
 
-abbrev pub sender : Queue → Owed → Sender
-sender q o = record { queue = q; owed = o }
+abbrev pub sender : Queue → Repeats → Sender
+sender q r = record { queue = q; repeats = r }
 
 -- well formed: a well-formed queue, and an owed pair absent or a command pair of odd parity
 abbrev pub mayBeOwed : Pair → Bool
 mayBeOwed p = isOddPair p && isCommandPair p
 
-abbrev pub owedFits : Option Pair → Bool
-owedFits none = true
-owedFits (some p) = mayBeOwed p
+abbrev pub owedFits : Owed → Bool
+owedFits owed.Absent = true
+owedFits (owed.Repeat p) = mayBeOwed p
+
+abbrev pub repeatsFit : Repeats → Bool
+repeatsFit r = owedFits (r .owed)
 
 unfoldable pub wellFormed : Sender → Bool
-wellFormed s = ring.wellFormed (s .queue) && owedFits (owedIn (s .owed))
+wellFormed s = ring.wellFormed (s .queue) && repeatsFit (s .repeats)
 
 -- of any call: an ill-formed state is refused, 12, and comes back as it was
 abbrev pub tested : {A : Type 0} → Sender → Outcome A × Sender → Outcome A × Sender
 tested s done = cond (wellFormed s) done (refused 12, s)
 
 abbrev pub freshSender : Sender
-freshSender = sender freshRing owed.Absent
+freshSender = sender freshRing noRepeat
 
 unfoldable pub pushSender : Sender → Code → Outcome Unit × Sender
-pushSender s c = tested s (pushRing (s .queue) c .0, sender (pushRing (s .queue) c .1) (s .owed))
+pushSender s c = tested s (pushRing (s .queue) c .0, sender (pushRing (s .queue) c .1) (s .repeats))
 
 -- an owed repeat leaves the queue as it is
-abbrev pub queueAfter : Option Pair → Queue → Queue
-queueAfter (some p) q = q
-queueAfter none q = popRing q .1
+abbrev pub queueAfter : Owed → Queue → Queue
+queueAfter (owed.Repeat p) q = q
+queueAfter owed.Absent q = popRing q .1
 
 unfoldable pub sendSender : Sender → Outcome Pair × Sender
 sendSender s =
     tested s
-    (answer (send (view s) .pair), sender (queueAfter (owedIn (s .owed)) (s .queue)) (owedAs (send (view s) .next .owed)))
+    (answer (send (view s) .pair), sender (queueAfter (s .repeats .owed) (s .queue)) (send (view s) .next .repeats))
 
 -- `n_codes` is the queue's: an owed pair is no code
 unfoldable pub countSender : Sender → Outcome ℕ × Sender

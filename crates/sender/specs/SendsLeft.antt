@@ -1,28 +1,48 @@
--- How many sends are left, at most, from 01: three for each waiting code (a space, the command, its repeat), two for a held
--- one and one for an owed repeat.
-use Prim.Native.Nat.{ℕ, zero, suc, _+_, _*_}
+-- How many sends are left, exactly, from 01: a command goes out twice and text once, unless half a command goes first in
+-- it; two single codes share a pair; and a command that needs a backspace has a space before it, in the pair of the single
+-- code before it if there is one.
+use Prim.Native.Nat.{ℕ, _+_}
+use mathlib.Core.Bool.{Bool, true, false, cond}
+use mathlib.Core.List.{List, [], _∷_}
+use mathlib.Core.Option.{Option, none, some}
 use lib.ListN.{length, replicate}
-use mathlib.Core.Option.{none, some}
 use Rattle.code.specs.Channel.{channelOne}
+use Rattle.code.specs.Code.{needsBackspace}
 use Rattle.code.specs.Symbol.{symbolAt}
+use Rattle.code.specs.Write.{isCommandCode}
 use Rattle.code.specs.declared.code.Code.{Code}
 use Rattle.code.specs.declared.code.Code.the-variants as code
 use Rattle.code.specs.declared.control.CodeField.the-variants.{Absent}
 use Rattle.code.specs.declared.control.Control.the-variants as control
-use Rattle.queue.specs.Queue.{heldCodes, pairOf, queued}
-use Rattle.sender.specs.Sending.{Sending, send, sending, stillOwed}
+use Rattle.queue.specs.Queue.{isSingle, pairOf, queued}
+use Rattle.sender.specs.Sending.{Sending, repeating, sendingOf, stillOwed}
 
-abbrev pub sendsLeft : Sending → ℕ
-sendsLeft s = 3 * length (s .queue .waiting) + 2 * length (heldCodes (s .queue .held)) + length (stillOwed (s .owed))
+-- how often a pair is sent that begins with a code
+abbrev pub copies : Code → ℕ
+copies c = cond (isCommandCode c) 2 1
 
-abbrev pub afterSends : ℕ → Sending → Sending
-afterSends zero s = s
-afterSends (suc n) s = afterSends n (send s .next)
+-- the pair of a space alone
+abbrev pub spaces : Code → ℕ
+spaces c = cond (needsBackspace c) 1 0
+
+-- of the waiting codes. The flag says that the code before them is a single one whose pair has its second byte free: a
+-- single code fills it and takes no send; before a command it is 80 or the space
+abbrev pub sendsFor : Bool → List Code → ℕ
+sendsFor half [] = 0
+sendsFor false (c ∷ cs) = cond (isSingle c) (copies c + sendsFor true cs) (spaces c + copies c + sendsFor false cs)
+sendsFor true (c ∷ cs) = cond (isSingle c) (sendsFor false cs) (copies c + sendsFor false cs)
+
+abbrev pub sendsForHeld : Option Code → ℕ
+sendsForHeld none = 0
+sendsForHeld (some c) = copies c
+
+unfoldable pub sendsLeft : Sending → ℕ
+sendsLeft s = length (stillOwed (s .repeats .owed)) + sendsForHeld (s .queue .held) + sendsFor false (s .queue .waiting)
 
 -- n copies of a code wait, and the code was sent once just before
 abbrev pub fullOf : Code → ℕ → Sending
-fullOf c n = sending (queued (replicate n c) none) (some (pairOf c))
+fullOf c n = sendingOf (queued (replicate n c) none) (repeating (pairOf c))
 
--- Á, 12 20, a code that takes all three: a space, the command, its repeat
+-- Á, 12 20, a code that takes three: a space, the command, its repeat
 abbrev pub A-acute : Code
 A-acute = code.Control (record { field = Absent; channel = channelOne; control = control.Symbol (symbolAt 16) })

@@ -14,8 +14,8 @@ impl Sender {
     pub fn n_codes(self) -> Counted
         ensures { λ r. ⌜ countOutcome r ≡ countSender self ⌝ }
     {
-        let owed = self.owed;
-        if !owed.is_well_formed() {
+        let repeats = self.repeats;
+        if !repeats.is_well_formed() {
             return Counted {
                 answer: CountAnswer::IllFormed,
                 sender: self,

@@ -2,9 +2,14 @@
 ghost use mathlib.Core.Bool.{true};
 ghost use mathlib.Core.Path.{_≡_};
 ghost use Rattle.sender.specs.Drain.{drainOutcome, drainSender};
-ghost use Rattle.sender.specs.Next.{filling, progressOutcome};
+ghost use Rattle.sender.specs.Next.{filling, progressOutcome, senderAt};
 ghost use Rattle.sender.specs.Sender.{wellFormed};
+use crate::idle::has_nothing;
+use crate::send::step_of;
+use crate::sender::Repeats;
 use crate::sender::Sender;
+use queue::Held;
+use queue::Queue;
 
 // The count of sends. `StartPastEnd` is refusal 11, `IllFormed` refusal 12.
 pub enum DrainAnswer {
@@ -18,40 +23,81 @@ pub struct Drained {
     pub answer: DrainAnswer,
 }
 
-// How far a writer of pairs has come.
+// How far a writer of pairs has come: the sends, and the parts of the state that they change.
 pub(crate) struct Progress {
-    pub sender: Sender,
     pub sends: usize,
+    pub start: usize,
+    pub waiting: usize,
+    pub held: Held,
+    pub repeats: Repeats,
 }
 
 impl Sender {
-    // The writer of pairs: fills a part of the output from its beginning, until idle, out of room or at the limit.
+    // The writer of pairs: fills a part of the output from its beginning, until idle, out of room or at the limit. No
+    // place of the ring changes, so that the ring is copied once.
     pub(crate) fn write_pairs(self, part: &mut [u8], limit: usize) -> Progress
         requires { ⌜ wellFormed self ≡ true ⌝ }
-        ensures { λ r. ⌜ progressOutcome r (now (part .exit)) ≡ filling self (now (part .entry)) limit ⌝ }
+        ensures { λ r. ⌜ progressOutcome self r (now (part .exit)) ≡ filling self (now (part .entry)) limit ⌝ }
     {
         let room = part.len();
-        let mut sender = self;
+        let queue = self.queue;
+        let places = queue.places;
+        let mut start = queue.start;
+        let mut waiting = queue.waiting;
+        let mut held = queue.held;
+        let mut repeats = self.repeats;
         let mut sends: usize = 0;
         let mut at: usize = 0;
         while sends < limit {
             if room - at < 2 {
                 break;
             }
-            if sender.has_nothing() {
+            if has_nothing(waiting, held, repeats) {
                 break;
             }
-            let next = sender.next();
-            let pair = next.pair;
+            let step = step_of(
+                places[start],
+                places[(start + 1) % 64],
+                waiting,
+                held,
+                repeats,
+            );
+            let pair = step.pair;
             part[at] = pair.0;
             part[at + 1] = pair.1;
-            sender = next.sender;
+            let freed = step.freed;
+            start = (start + freed) % 64;
+            waiting -= freed;
+            held = step.held;
+            repeats = step.repeats;
             at += 2;
             sends += 1;
         }
         Progress {
             sends: sends,
-            sender: sender,
+            start: start,
+            waiting: waiting,
+            held: held,
+            repeats: repeats,
+        }
+    }
+
+    // The sender once so much is sent.
+    pub(crate) fn after(self, done: Progress) -> Sender
+        ensures { λ r. ⌜ r ≡ senderAt self done ⌝ }
+    {
+        let queue = self.queue;
+        let places = queue.places;
+        let held = done.held;
+        let repeats = done.repeats;
+        Sender {
+            queue: Queue {
+                places: places,
+                start: done.start,
+                waiting: done.waiting,
+                held: held,
+            },
+            repeats: repeats,
         }
     }
 
@@ -73,10 +119,9 @@ impl Sender {
         }
         let done = self.write_pairs(&mut out[start..], limit);
         let sends = done.sends;
-        let sender = done.sender;
         Drained {
             answer: DrainAnswer::Sends(sends),
-            sender: sender,
+            sender: self.after(done),
         }
     }
 }

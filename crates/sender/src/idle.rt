@@ -1,8 +1,9 @@
 // Whether the sender has anything left to send.
 ghost use mathlib.Core.Path.{_≡_};
-ghost use Rattle.sender.specs.Sender.{idleOutcome, idleSender, view};
-ghost use Rattle.sender.specs.Sending.{isIdle};
+ghost use Rattle.sender.specs.Next.{nothingLeft};
+ghost use Rattle.sender.specs.Sender.{idleOutcome, idleSender};
 use crate::sender::Owed;
+use crate::sender::Repeats;
 use crate::sender::Sender;
 use queue::Held;
 
@@ -18,27 +19,24 @@ pub struct Idleness {
     pub answer: IdleAnswer,
 }
 
-impl Sender {
-    // Whether nothing waits, nothing is held and nothing is owed.
-    pub(crate) fn has_nothing(self) -> bool
-        ensures { λ r. ⌜ r ≡ isIdle (view self) ⌝ }
-    {
-        let queue = self.queue;
-        let waiting = queue.waiting;
-        if waiting != 0 {
-            return false;
-        }
-        let held = queue.held;
-        let Held::Absent = held else {
-            return false;
-        };
-        let owed = self.owed;
-        match owed {
-            Owed::Absent => true,
-            Owed::Repeat(_) => false,
-        }
+// Whether nothing waits, nothing is held and nothing is owed.
+pub(crate) fn has_nothing(waiting: usize, held: Held, repeats: Repeats) -> bool
+    ensures { λ r. ⌜ r ≡ nothingLeft waiting held repeats ⌝ }
+{
+    if waiting != 0 {
+        return false;
     }
+    let Held::Absent = held else {
+        return false;
+    };
+    let owed = repeats.owed;
+    match owed {
+        Owed::Absent => true,
+        Owed::Repeat(_) => false,
+    }
+}
 
+impl Sender {
     // Whether all that was accepted has been sent, each command twice.
     pub fn is_idle(self) -> Idleness
         ensures { λ r. ⌜ idleOutcome r ≡ idleSender self ⌝ }
@@ -49,7 +47,11 @@ impl Sender {
                 sender: self,
             };
         }
-        if self.has_nothing() {
+        let queue = self.queue;
+        let waiting = queue.waiting;
+        let held = queue.held;
+        let repeats = self.repeats;
+        if has_nothing(waiting, held, repeats) {
             return Idleness {
                 answer: IdleAnswer::Idle,
                 sender: self,

@@ -17,4 +17,5 @@ pub use idle::Idleness;
 pub use push::Pushed;
 pub use send::Sent;
 pub use sender::Owed;
+pub use sender::Repeats;
 pub use sender::Sender;

@@ -3,7 +3,9 @@ ghost use mathlib.Core.Path.{_≡_};
 ghost use Rattle.sender.specs.Sender.{pushOutcome, pushSender};
 use crate::sender::Sender;
 use code::Code;
+use queue::Entry;
 use queue::PushAnswer;
+use queue::push::entry_for;
 
 pub struct Pushed {
     pub sender: Sender,
@@ -15,22 +17,31 @@ impl Sender {
     pub fn push(self, code: Code) -> Pushed
         ensures { λ r. ⌜ pushOutcome r ≡ pushSender self code ⌝ }
     {
-        let owed = self.owed;
-        if !owed.is_well_formed() {
+        let repeats = self.repeats;
+        if !repeats.is_well_formed() {
             return Pushed {
                 answer: PushAnswer::IllFormed,
                 sender: self,
             };
         }
         let queue = self.queue;
-        let pushed = queue.push(code);
-        let answer = pushed.answer;
-        let next = pushed.queue;
-        Pushed {
-            answer: answer,
-            sender: Sender {
-                queue: next,
-                owed: owed,
+        let start = queue.start;
+        let waiting = queue.waiting;
+        let held = queue.held;
+        match entry_for(start, waiting, held, code) {
+            Entry::Stored(number) => {
+                let next = queue.stored(number);
+                Pushed {
+                    answer: PushAnswer::Accepted,
+                    sender: Sender {
+                        queue: next,
+                        repeats: repeats,
+                    },
+                }
+            }
+            Entry::Unchanged(answer) => Pushed {
+                answer: answer,
+                sender: self,
             },
         }
     }

@@ -1,75 +1,91 @@
 // Sending the next pair: a repeat that is owed, else a pair of the queue.
-ghost use mathlib.Core.Bool.{true};
 ghost use mathlib.Core.Path.{_≡_};
-ghost use Rattle.queue.specs.Ring.{popAnswerOutcome};
-ghost use Rattle.sender.specs.Next.{nextOutcome, pairIn};
-ghost use Rattle.sender.specs.Sender.{owedAs, sendOutcome, sendSender, wellFormed};
-ghost use Rattle.sender.specs.Sending.{repeatOf};
+ghost use Prim.Native.Nat.{_≤_, _<_};
+ghost use Rattle.sender.specs.Next.{moved, stepOf};
+ghost use Rattle.sender.specs.Sender.{sendOutcome, sendSender};
+ghost use Rattle.sender.specs.Sending.{repeatsAfter};
 use crate::sender::Owed;
+use crate::sender::Repeats;
 use crate::sender::Sender;
 use crate::well_formed::is_command;
 use code::Pair;
+use queue::Held;
 use queue::PopAnswer;
+use queue::Queue;
+use queue::pop::turn_of;
 
 pub struct Sent {
     pub sender: Sender,
     pub answer: PopAnswer,
 }
 
-// A send from a well-formed state, which cannot be refused.
-pub(crate) struct Next {
-    pub sender: Sender,
+// What a send does: the pair that goes out, how many places of the ring it frees, and what is held and owed afterwards.
+pub(crate) struct Step {
     pub pair: Pair,
+    pub freed: usize,
+    pub held: Held,
+    pub repeats: Repeats,
 }
 
-// What is owed once a pair of the queue has been sent: the same pair again where it is a command.
-pub(crate) fn repeat_of(pair: Pair) -> Owed
-    ensures { λ r. ⌜ r ≡ owedAs (repeatOf pair) ⌝ }
+// What is to be repeated once a pair of the queue has been sent: the same pair where it is a command.
+pub(crate) fn repeats_after(pair: Pair) -> Repeats
+    ensures { λ r. ⌜ r ≡ repeatsAfter pair ⌝ }
 {
     if !is_command(pair) {
-        return Owed::Absent;
+        return Repeats { owed: Owed::Absent };
     }
-    Owed::Repeat(pair)
+    Repeats {
+        owed: Owed::Repeat(pair),
+    }
 }
 
-// The pair of an answer. A well-formed queue gives one.
-pub(crate) fn pair_in(answer: PopAnswer) -> Pair
-    ensures { λ r. ⌜ r ≡ pairIn (popAnswerOutcome answer) ⌝ }
+// The send of a sender by the numbers at its queue's first two places, how many wait, what is held and what is
+// to be repeated.
+pub(crate) fn step_of(first: u16, second: u16, waiting: usize, held: Held, repeats: Repeats) -> Step
+    ensures { λ r. ⌜ r ≡ stepOf first second waiting held repeats ⌝ }
 {
-    match answer {
-        PopAnswer::Sent(pair) => pair,
-        PopAnswer::IllFormed => Pair(0x80, 0x80),
+    let owed = repeats.owed;
+    if let Owed::Repeat(pair) = owed {
+        return Step {
+            pair: pair,
+            freed: 0,
+            held: held,
+            repeats: Repeats { owed: Owed::Absent },
+        };
+    }
+    let turn = turn_of(first, second, waiting, held);
+    let pair = turn.pair;
+    let freed = turn.freed;
+    let left = turn.held;
+    Step {
+        pair: pair,
+        freed: freed,
+        held: left,
+        repeats: repeats_after(pair),
     }
 }
 
 impl Sender {
-    pub(crate) fn next(self) -> Next
-        requires { ⌜ wellFormed self ≡ true ⌝ }
-        ensures { λ r. ⌜ nextOutcome r ≡ sendSender self ⌝ }
+    // The sender after a step.
+    pub(crate) fn moved(self, step: Step) -> Sender
+        requires { ⌜ (self .queue .start < 64) × (self .queue .waiting ≤ 64) × (step .freed ≤ self .queue .waiting) ⌝ }
+        ensures { λ r. ⌜ r ≡ moved self step ⌝ }
     {
         let queue = self.queue;
-        let owed = self.owed;
-        match owed {
-            Owed::Repeat(pair) => Next {
-                pair: pair,
-                sender: Sender {
-                    queue: queue,
-                    owed: Owed::Absent,
-                },
+        let start = queue.start;
+        let waiting = queue.waiting;
+        let places = queue.places;
+        let freed = step.freed;
+        let held = step.held;
+        let repeats = step.repeats;
+        Sender {
+            queue: Queue {
+                places: places,
+                start: (start + freed) % 64,
+                waiting: waiting - freed,
+                held: held,
             },
-            Owed::Absent => {
-                let popped = queue.pop();
-                let left = popped.queue;
-                let answer = popped.answer;
-                let pair = pair_in(answer);
-                Next {
-                    pair: pair,
-                    sender: Sender {
-                        queue: left,
-                        owed: repeat_of(pair),
-                    },
-                }
-            }
+            repeats: repeats,
         }
     }
 
@@ -83,12 +99,18 @@ impl Sender {
                 sender: self,
             };
         }
-        let next = self.next();
-        let pair = next.pair;
-        let left = next.sender;
+        let queue = self.queue;
+        let repeats = self.repeats;
+        let start = queue.start;
+        let waiting = queue.waiting;
+        let held = queue.held;
+        let first = queue.places[start];
+        let second = queue.places[(start + 1) % 64];
+        let step = step_of(first, second, waiting, held, repeats);
+        let pair = step.pair;
         Sent {
-            answer: PopAnswer::Sent(pair),
-            sender: left,
+            answer: PopAnswer::Next(pair),
+            sender: self.moved(step),
         }
     }
 }

@@ -1,4 +1,4 @@
-// The sender's state: the queue, and the pair that is owed a second time.
+// The sender's state: the queue, and what is to be repeated.
 ghost use mathlib.Core.Path.{_≡_};
 ghost use Rattle.sender.specs.Sender.{freshSender};
 use code::Pair;
@@ -10,9 +10,14 @@ pub enum Owed {
     Repeat(Pair),
 }
 
+// What the sender keeps beside the queue so that each command goes out twice.
+pub struct Repeats {
+    pub owed: Owed,
+}
+
 pub struct Sender {
     pub queue: Queue,
-    pub owed: Owed,
+    pub repeats: Repeats,
 }
 
 impl Sender {
@@ -22,7 +27,7 @@ impl Sender {
     {
         Sender {
             queue: Queue::new(),
-            owed: Owed::Absent,
+            repeats: Repeats { owed: Owed::Absent },
         }
     }
 

@@ -1,8 +1,9 @@
 // Whether a state that was handed in meets the clauses of refusal 12.
 ghost use mathlib.Core.Path.{_≡_};
-ghost use Rattle.sender.specs.Sender.{mayBeOwed, owedFits, owedIn, wellFormed};
+ghost use Rattle.sender.specs.Sender.{repeatsFit, mayBeOwed, wellFormed};
 ghost use Rattle.code.specs.Read.{isCommandPair};
 use crate::sender::Owed;
+use crate::sender::Repeats;
 use crate::sender::Sender;
 use code::Pair;
 use code::parity::check_odd_parity;
@@ -32,12 +33,13 @@ pub(crate) fn may_be_owed(pair: Pair) -> bool
     is_command(pair)
 }
 
-impl Owed {
+impl Repeats {
     // Whether nothing is owed, or a pair that may be.
     pub(crate) fn is_well_formed(self) -> bool
-        ensures { λ r. ⌜ r ≡ owedFits (owedIn self) ⌝ }
+        ensures { λ r. ⌜ r ≡ repeatsFit self ⌝ }
     {
-        match self {
+        let owed = self.owed;
+        match owed {
             Owed::Absent => true,
             Owed::Repeat(pair) => may_be_owed(pair),
         }
@@ -46,14 +48,14 @@ impl Owed {
 
 impl Sender {
     // Whether refusal 12 does not apply.
-    pub(crate) fn is_well_formed(self) -> bool
+    pub fn is_well_formed(self) -> bool
         ensures { λ r. ⌜ r ≡ wellFormed self ⌝ }
     {
         let queue = self.queue;
         if !queue.is_well_formed() {
             return false;
         }
-        let owed = self.owed;
-        owed.is_well_formed()
+        let repeats = self.repeats;
+        repeats.is_well_formed()
     }
 }

@@ -20,6 +20,7 @@ mod differences;
 mod event;
 mod listing;
 mod names;
+mod number;
 mod panics;
 mod queue;
 mod queue_sets;

@@ -6,6 +6,7 @@
 
 use crate::code::{control, written};
 use crate::names::LETTERS;
+use crate::number::code_of;
 use crate::rounds::Beside;
 use crate::transcript::Transcript;
 use crate::values::code_bytes;
@@ -188,11 +189,11 @@ impl Writer {
         if let Some(held) = pieces.held {
             // A single code first: the pop sends it and holds the command.
             self.writer.push(LETTERS[0]);
-            self.put(held);
+            self.put(code_of(held));
             self.writer.pop();
         }
         for place in 0..pieces.waiting {
-            self.put(pieces.slots[(pieces.start + place) % PLACES]);
+            self.put(code_of(pieces.places[(pieces.start + place) % PLACES]));
         }
     }
 }
@@ -225,19 +226,19 @@ fn check_made(pair: [u8; 2], taken: &[Code], next: Option<Code>) {
     assert_eq!(is_command(pair), made_as_command(taken), "of {taken:?}");
 }
 
-/// A state of the queue, piece by piece, which a caller may hand in.
+/// A state of the queue, piece by piece, which a caller may hand in. A code is there by its number.
 #[derive(Clone)]
 pub struct Pieces {
-    pub slots: [Code; PLACES],
+    pub places: [u16; PLACES],
     pub start: usize,
     pub waiting: usize,
-    pub held: Option<Code>,
+    pub held: Option<u16>,
 }
 
 impl Pieces {
     pub fn fresh() -> Self {
         Pieces {
-            slots: [Code::NUL; PLACES],
+            places: [0; PLACES],
             start: 0,
             waiting: 0,
             held: None,
@@ -249,29 +250,35 @@ impl Pieces {
         to.add(0x34, &[], &[]);
         to.add(0x35, &self.start.to_le_bytes(), &[]);
         to.add(0x36, &self.waiting.to_le_bytes(), &[]);
-        for (place, code) in self.slots.into_iter().enumerate() {
-            if code != Code::NUL {
-                let query = [&code_bytes(code)[..], &[place as u8]].concat();
-                to.add(0x37, &query, &[]);
+        for (place, number) in self.places.into_iter().enumerate() {
+            if number != 0 {
+                set_place(to, place as u8, number);
             }
         }
-        let held = code_bytes(self.held.unwrap_or(Code::NUL));
-        let query = [&held[..], &[self.held.is_some().into()]].concat();
-        to.add(0x38, &query, &[]);
+        let [low, high] = self.held.unwrap_or(0).to_le_bytes();
+        to.add(0x38, &[low, high, self.held.is_some().into()], &[]);
     }
 
     /// Reads the whole queue, which shall be these pieces.
     pub fn read_back(&self, to: &mut Transcript) {
         let numbers = [self.start.to_le_bytes(), self.waiting.to_le_bytes()].concat();
         to.add(0x39, &[], &numbers);
-        for (place, code) in self.slots.into_iter().enumerate() {
-            let answer = [&[0], &code_bytes(code)[..]].concat();
-            to.add(0x3A, &[place as u8], &answer);
+        for (place, number) in self.places.into_iter().enumerate() {
+            read_place(to, place as u8, number);
         }
-        let held = code_bytes(self.held.unwrap_or(Code::NUL));
-        let answer = [&[self.held.is_some().into()], &held[..]].concat();
-        to.add(0x3B, &[], &answer);
+        let [low, high] = self.held.unwrap_or(0).to_le_bytes();
+        to.add(0x3B, &[], &[self.held.is_some().into(), low, high]);
     }
+}
+
+fn set_place(to: &mut Transcript, place: u8, number: u16) {
+    let [low, high] = number.to_le_bytes();
+    to.add(0x37, &[low, high, place], &[]);
+}
+
+fn read_place(to: &mut Transcript, place: u8, number: u16) {
+    let [low, high] = number.to_le_bytes();
+    to.add(0x3A, &[place], &[0, low, high]);
 }
 
 /// The answer of a count: no refusal, and the number.
@@ -298,6 +305,20 @@ impl<'a> Asked<'a> {
     pub fn pop(&mut self) {
         let [first, second] = self.writer.pop();
         self.to.add(0x31, &[], &[0, first, second]);
+    }
+
+    /// One number waits in a fresh queue, as a caller may have it.
+    pub fn one_number(&mut self, number: u16) {
+        self.writer.reset();
+        self.writer.put(code_of(number));
+        self.to.add(0x34, &[], &[]);
+        set_place(self.to, 0, number);
+        self.to.add(0x36, &1_u64.to_le_bytes(), &[]);
+    }
+
+    /// The number at the first place, once a code was pushed into a fresh queue.
+    pub fn number_of_first(&mut self, number: u16) {
+        read_place(self.to, 0, number);
     }
 
     /// Sets the queue to any state.

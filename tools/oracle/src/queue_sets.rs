@@ -1,10 +1,11 @@
 //! The sets of the queue: calls in random order beside the crate's writer, and states that are not
-//! well formed, each clause of refusal 12 broken alone.
+//! well formed, each clause of refusal 12 that a state can break broken alone.
 
-use crate::any_code::{any_code, any_control, needs_backspace, needs_none, waiting_code};
+use crate::any_code::{any_control, needs_backspace, needs_none, waiting_code};
 use crate::code::{control, mid_row_code, preamble_code};
 use crate::code_sets::{CHANNELS, FIELDS_OR_NONE, FLAGS};
 use crate::names::{COMMANDS, LETTERS, MID_ROW_COLOURS, STYLES, SYMBOLS};
+use crate::number::{code_of, number_of};
 use crate::queue::{plain, Asked, Pieces, PLACES};
 use crate::random::{Random, SEED};
 use crate::rounds::{rounds, stretch, Beside, Steps};
@@ -20,6 +21,8 @@ pub fn calls(to: &mut Transcript, random: &mut Random) {
     for codes in short_sequences() {
         push_all_and_pop(&mut asked, &codes);
     }
+    every_number(&mut asked);
+    every_code_that_may_wait(&mut asked);
     refusals_change_nothing(&mut asked, random);
     rounds(&mut asked, random, ROUNDS);
     asked.writer.met.reached_everything();
@@ -121,6 +124,34 @@ fn push_all_and_pop(asked: &mut Asked, codes: &[Code]) {
     asked.run_out();
 }
 
+/// Each of the 65,536 numbers, alone in the ring: what is sent is what the crate sends of its code.
+fn every_number(asked: &mut Asked) {
+    for number in 0..=u16::MAX {
+        asked.one_number(number);
+        asked.look();
+        asked.run_out();
+    }
+}
+
+/// Each code that may wait, pushed into a fresh queue: it is kept by its own number.
+fn every_code_that_may_wait(asked: &mut Asked) {
+    let codes: Vec<Code> = (0..=u16::MAX).map(code_of).collect();
+    let mut seen = 0;
+    for (number, &code) in codes.iter().enumerate() {
+        if usize::from(number_of(code)) == number {
+            asked.reset();
+            asked.push(code);
+            asked.number_of_first(number as u16);
+            seen += 1;
+        }
+        assert_eq!(code_of(number_of(code)), code);
+    }
+    assert_eq!(seen, MAY_WAIT);
+}
+
+/// 96 letters, 128 `Unknown`s of one byte, and 2,643 controls on three fields and two channels.
+const MAY_WAIT: usize = 96 + 128 + 2643 * 6;
+
 /// A push that is refused, NUL and a count leave the state the same in every piece.
 fn refusals_change_nothing(asked: &mut Asked, random: &mut Random) {
     for waiting in [0, 1, 63, 64] {
@@ -128,7 +159,7 @@ fn refusals_change_nothing(asked: &mut Asked, random: &mut Random) {
             let pieces = Pieces {
                 start,
                 waiting,
-                ..of_good_codes(random)
+                ..well_formed(random)
             };
             asked.set_well_formed(&pieces);
             asked.push(Code::NUL);
@@ -162,40 +193,26 @@ impl Steps for Asked<'_> {
     }
 }
 
-/// A well-formed state. What stands at the free places does not matter, and is anything.
+/// A well-formed state. Every place has the number of a code that may wait, or any number at all.
 pub fn well_formed(random: &mut Random) -> Pieces {
-    let start = random.pick(&[0, 1, 31, 60, 61, 62, 63]);
-    let waiting = random.pick(&[0, 1, 2, 3, 40, 62, 63, 64]);
-    let mut slots = [Code::NUL; PLACES];
-    for slot in &mut slots {
-        *slot = any_code(random);
-    }
-    for place in 0..waiting {
-        slots[(start + place) % PLACES] = waiting_code(random);
-    }
+    let any = random.below(4) == 0;
     let held = match random.below(3) {
         0 => None,
-        1 => Some(any_control(random, needs_backspace)),
-        _ => Some(any_control(random, needs_none)),
+        1 => Some(number_of(any_control(random, needs_backspace))),
+        _ => Some(number_of(any_control(random, needs_none))),
     };
     Pieces {
-        slots,
-        start,
-        waiting,
+        places: [(); PLACES].map(|()| match any {
+            true => random.below(0x1_0000) as u16,
+            false => number_of(waiting_code(random)),
+        }),
+        start: random.pick(&[0, 1, 31, 60, 61, 62, 63]),
+        waiting: random.pick(&[0, 1, 2, 3, 40, 62, 63, 64]),
         held,
     }
 }
 
-/// A well-formed state with a code at every place that may wait, so that it stays well formed
-/// wherever it starts and however many wait.
-pub fn of_good_codes(random: &mut Random) -> Pieces {
-    Pieces {
-        slots: [(); PLACES].map(|()| waiting_code(random)),
-        ..well_formed(random)
-    }
-}
-
-/// Every clause of refusal 12 broken alone, in several states each: each call refuses, and the
+/// Every clause that a state can break, in several states each: each call refuses, and the
 /// state that comes back is the same in every piece. A good state in its place works, and a reset
 /// takes it to a fresh one.
 pub fn ill_formed(to: &mut Transcript, random: &mut Random) {
@@ -210,7 +227,7 @@ pub fn ill_formed(to: &mut Transcript, random: &mut Random) {
 /// What breaks a well-formed state.
 pub type Break = Box<dyn Fn(&mut Pieces)>;
 
-/// Each clause of refusal 12 broken alone, in several ways, and at last two by the largest number.
+/// Each clause that a state can break, broken alone in several ways, and at last two at once.
 pub fn every_break() -> Vec<Break> {
     let mut all: Vec<Break> = vec![];
     for start in NUMBERS {
@@ -219,16 +236,8 @@ pub fn every_break() -> Vec<Break> {
     for waiting in NUMBERS.into_iter().filter(|&number| number > PLACES) {
         all.push(Box::new(move |pieces| pieces.waiting = waiting));
     }
-    for code in not_to_wait() {
-        for place in [0, 1, 31, 62, 63] {
-            all.push(Box::new(move |pieces| {
-                pieces.waiting = pieces.waiting.max(place + 1);
-                pieces.slots[(pieces.start + place) % PLACES] = code;
-            }));
-        }
-    }
-    for code in not_to_hold() {
-        all.push(Box::new(move |pieces| pieces.held = Some(code)));
+    for number in NOT_TO_HOLD {
+        all.push(Box::new(move |pieces| pieces.held = Some(number)));
     }
     all.push(Box::new(|pieces| {
         pieces.start = usize::MAX;
@@ -254,13 +263,6 @@ const NUMBERS: [usize; 14] = [
     usize::MAX,
 ];
 
-/// NUL, and what refusals 2, 3 and 18 are about.
-fn not_to_wait() -> Vec<Code> {
-    let mut codes = vec![Code::NUL];
-    codes.extend(not_to_queue());
-    codes
-}
-
 /// What refusals 2, 3 and 18 are about. 2 is tested before 18.
 pub fn not_to_queue() -> Vec<Code> {
     let mut codes: Vec<Code> = [0x80, 0xC1, 0xFF].map(Code::Unknown).into();
@@ -282,13 +284,11 @@ pub fn not_to_queue() -> Vec<Code> {
     codes
 }
 
-/// Single codes, and two-byte codes that may not be queued.
-fn not_to_hold() -> Vec<Code> {
-    let mut codes = vec![Code::NUL, LETTERS[33], LETTERS[95]];
-    codes.extend([0x00, 0x14, 0x41, 0x7F].map(Code::Unknown));
-    codes.extend(not_to_queue());
-    codes
-}
+/// The numbers of single codes. Each other number is that of a code that may be held.
+const NOT_TO_HOLD: [u16; 14] = [
+    0x8000, 0x8001, 0x801F, 0x8020, 0x8041, 0x807F, 0x8080, 0x8094, 0x80FF, 0x9000, 0xA000, 0xC000,
+    0xFFFE, 0xFFFF,
+];
 
 /// What is pushed into a state that is not well formed: 12 is tested before all else.
 pub fn pushed_when_ill_formed() -> [Code; 5] {
@@ -303,7 +303,7 @@ pub fn pushed_when_ill_formed() -> [Code; 5] {
 
 /// Breaks a well-formed state in one way.
 fn break_alone(asked: &mut Asked, random: &mut Random, broken_by: impl Fn(&mut Pieces)) {
-    let good = of_good_codes(random);
+    let good = well_formed(random);
     let mut broken = good.clone();
     broken_by(&mut broken);
     asked.set(&broken);

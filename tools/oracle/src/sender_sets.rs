@@ -1,10 +1,10 @@
 //! The sets of the sender: calls in random order beside the model, and states that are not well
-//! formed, each clause of refusal 12 broken alone.
+//! formed, each clause of refusal 12 that a state can break broken alone.
 
 use crate::code::with_parity;
 use crate::names::{COMMANDS, LETTERS, SYMBOLS};
 use crate::queue::{is_command, plain, PLACES};
-use crate::queue_sets::{self, every_break, of_good_codes, short_sequences};
+use crate::queue_sets::{self, every_break, short_sequences};
 use crate::random::{Random, SEED};
 use crate::rounds::{rounds, stretch, Beside, Steps};
 use crate::sender::{is_odd, Asked, Drain, Model, Pieces, LONGEST_OUTPUT};
@@ -176,7 +176,7 @@ fn sends_until_idle((codes, sends): &Before) -> usize {
 fn refusals_change_nothing(asked: &mut Asked, random: &mut Random) {
     for waiting in [0, 1, 63, PLACES] {
         for start in [0, 1, 63] {
-            let mut pieces = of_good_pieces(random);
+            let mut pieces = well_formed(random);
             pieces.queue.start = start;
             pieces.queue.waiting = waiting;
             asked.set_well_formed(&pieces);
@@ -243,14 +243,7 @@ fn well_formed(random: &mut Random) -> Pieces {
     }
 }
 
-fn of_good_pieces(random: &mut Random) -> Pieces {
-    Pieces {
-        queue: of_good_codes(random),
-        owed: any_owed(random),
-    }
-}
-
-/// Every clause of refusal 12 broken alone, those of the queue and those of the owed pair: each
+/// Every clause that a state can break, broken alone, those of the queue and those of the owed pair: each
 /// call refuses, and the state that comes back is the same in every piece. A good state in its
 /// place works, and a reset takes it to a fresh one.
 pub fn ill_formed(to: &mut Transcript, random: &mut Random) {
@@ -324,7 +317,7 @@ fn refuse_everything(asked: &mut Asked, broken: &Pieces) {
 
 /// Breaks a well-formed state in one way, and puts the good state in its place again.
 fn break_alone(asked: &mut Asked, random: &mut Random, broken_by: impl Fn(&mut Pieces)) {
-    let good = of_good_pieces(random);
+    let good = well_formed(random);
     let mut broken = good.clone();
     broken_by(&mut broken);
     refuse_everything(asked, &broken);

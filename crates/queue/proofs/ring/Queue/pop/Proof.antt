@@ -1,64 +1,72 @@
--- `queue::ring::Queue::pop` meets its contract: 12 is tested first, and the rest is the turn: of the held code, or else
--- of those that wait.
+-- `queue::ring::Queue::pop` meets its contract: 12 is tested first, and the rest is the turn by the first two numbers.
 -- Assumes nothing.
-use borrow.Author.Needs.{needs}
-use borrow.Author.Tests.{not-true, not-false}
+use borrow.Author.Tests.{not-false, not-true}
 use mathlib.Core.Bool.{true}
-use mathlib.Core.List.{[]}
-use mathlib.Core.Logic.{⊎-elim}
-use mathlib.Core.Path.{_≡_, ap, sym, _∙_}
+use mathlib.Core.Path.{_≡_, ap, ap₂, sym, _∙_}
 use native.Mathlib.Omega.{arith}
-use Rattle.queue.proofs.Places.{how-many}
-use Rattle.queue.proofs.Turns.{turn-of-held}
+use Prim.Native.Nat.{ℕ, _+_, _<_}
+use Rattle.code.specs.Outcome.{Outcome, answer}
+use Rattle.code.specs.declared.pair.Pair.{Pair}
+use Rattle.queue.proofs.Places.{place-is}
+use Rattle.queue.proofs.Refines.{ill-formed-pop, popped-as}
+use Rattle.queue.proofs.Turns.{turn-frees-waiting, turn-is-the-pop, turn-leaves, turnIn}
 use Rattle.queue.proofs.WellFormed.{formed}
-use Rattle.queue.specs.Queue.{queued}
-use Rattle.queue.specs.Ring.{heldIn, popRing, view, waitingIn, wellFormed}
-use Rattle.queue.specs.Turn.{turn}
+use Rattle.queue.specs.Ring.{numberAt, wellFormed}
+use Rattle.queue.specs.Turn.{freeing, turnOf}
 use Rattle.queue.specs.declared.pop.Turn.{Turn}
-use Rattle.queue.specs.declared.ring.Held.{Held}
+use Rattle.queue.specs.declared.ring.Queue.{Queue}
+use borrow.Author.Needs.{needs}
 use Rattle.queue.proofs.ring.Queue.pop.Statement.{statement}
 use Rattle.queue.proofs.ring.Queue.pop.Tie as tie
 
--- what is known once the test is passed, and once the turn is found
-is-formed : (c : tie.Else1) → wellFormed (c .before .before .args .self) ≡ true
+-- what is known once the test is passed
+is-formed : (c : tie.Else1) → wellFormed (c .before .before .args .t1) ≡ true
 is-formed c = sym (c .before .is-well-formed .ensures) ∙ not-false (c .before .is-well-formed .result) (c .if1 .left)
 
-is-turn : (c : tie.At-match-came) → c .match .turn ≡ turn (view (c .before .before .before .args .self))
+start-below : (c : tie.Else1) → c .before .before .args .t1 .start < 64
+start-below c = formed _ (is-formed c) .start
+
+is-turn : (c : tie.After-turn-of) → c .turn-of .result ≡ turnIn (c .before .before .before .before .before .args .t1)
 is-turn c =
-    let q = c .before .before .before .args .self in
-    ⊎-elim
-    (λ w. w .4 ∙ w .3 .ensures ∙ turn-of-held _ [] ∙ sym (turn-of-held _ (waitingIn q)) ∙ ap (λ (h : Held). turn (queued (waitingIn q) (heldIn h))) (sym (w .1 .given .1)))
-    (λ w. w .3 ∙ w .2 .ensures ∙ ap (λ (h : Held). turn (queued (waitingIn q) (heldIn h))) (sym (w .1 .given .1)))
-    (c .match .came)
+    let q = c .before .before .before .before .before .args .t1 in
+    c .turn-of .ensures
+    ∙ ap (λ (n : ℕ). turnOf n (numberAt (q .places) (q .start + 1)) (q .waiting) (q .held)) (place-is (q .places) (q .start) (start-below (c .before .before .before)))
 
 is-well-formed-requires : tie.Need-is-well-formed-requires
 is-well-formed-requires c κs = search needs
 
 returns : tie.Need-returns
-unfolding popRing
-returns c = simp (← c .before .is-well-formed .ensures, not-true (c .before .is-well-formed .result) (c .if1 .taken))
+returns c = sym (ill-formed-pop _ (sym (c .before .is-well-formed .ensures) ∙ not-true (c .before .is-well-formed .result) (c .if1 .taken)))
 
-enum-known-held : tie.Need-enum-known-held
-enum-known-held c = search needs
+mul-first : tie.Need-mul-first
+mul-first c = omega (arith, start-below c)
 
-held-turn-requires : tie.Need-held-turn-requires
-held-turn-requires c κs = search needs
+element-copy-out-first : tie.Need-element-copy-out-first
+element-copy-out-first c = start-below c
 
-enum-told : tie.Need-enum-told
-enum-told c = search needs
+add-second : tie.Need-add-second
+add-second c = omega (arith, start-below (c .before))
 
-waiting-turn-requires : tie.Need-waiting-turn-requires
-waiting-turn-requires c κs = let f = formed _ (is-formed (c .before .before)) in (f .start, f .waiting)
+mul-second : tie.Need-mul-second
+mul-second c = search needs
+
+element-copy-out-second : tie.Need-element-copy-out-second
+element-copy-out-second c = search needs
+
+turn-of-requires : tie.Need-turn-of-requires
+turn-of-requires c κs = search needs
 
 freeing-requires : tie.Need-freeing-requires
 freeing-requires c κs =
-    let q = c .before .before .before .before .args .self in
-    let f = formed _ (is-formed (c .before .before)) in
-    (f .start, f .waiting, omega (arith, ap (λ (t : Turn). t .freed) (is-turn (c .before)), how-many (q .slots) (q .start) (q .waiting)))
+    let f = formed _ (is-formed (c .before .before .before .before)) in
+    (f .start, f .waiting, omega (arith, ap (λ (t : Turn). t .freed) (is-turn (c .before)), turn-frees-waiting (c .before .before .before .before .before .before .args .t1)))
 
 returns-2 : tie.Need-returns-2
-unfolding popRing
-returns-2 c = simp (is-formed (c .before .before .before), c .freeing .ensures, is-turn (c .before .before))
+returns-2 c =
+    let q = c .before .before .before .before .before .before .before .args .t1 in
+    let turned = is-turn (c .before .before) in
+    ap₂ {C = Outcome Pair × Queue} (λ (p : Pair) (r : Queue). (answer p, r)) (ap (λ (t : Turn). t .pair) turned ∙ turn-is-the-pop q) (c .freeing .ensures ∙ ap (freeing q) turned ∙ turn-leaves q)
+    ∙ sym (popped-as q (is-formed (c .before .before .before .before .before)))
 
 pub pop-spec : {M : Type 1} → statement M
 pop-spec =
@@ -66,9 +74,11 @@ pop-spec =
     (tie.spec
     is-well-formed-requires
     returns
-    enum-known-held
-    held-turn-requires
-    enum-told
-    waiting-turn-requires
+    mul-first
+    element-copy-out-first
+    add-second
+    mul-second
+    element-copy-out-second
+    turn-of-requires
     freeing-requires
     returns-2)

@@ -1,24 +1,31 @@
--- `queue::ring::Queue::stored` meets its contract: the place is one of the 64, and the record is the definition's.
+-- `queue::ring::Queue::stored` meets its contract: nothing is stored where there is no place for it.
 -- Assumes nothing.
-use mathlib.Core.Path.{refl}
-use native.Mathlib.Omega.{arith}
+use Rattle.queue.proofs.Entries.{no-room, start-outside, stored-there}
+use borrow.Author.Needs.{needs}
 use Rattle.queue.proofs.ring.Queue.stored.Statement.{statement}
 use Rattle.queue.proofs.ring.Queue.stored.Tie as tie
 
-add-place : tie.Need-add-place
-add-place c = omega arith
-
-mul-slots : tie.Need-mul-slots
-mul-slots c = omega arith
-
-array-set-from-slots : tie.Need-array-set-from-slots
-array-set-from-slots c = omega arith
-
-add-more : tie.Need-add-more
-add-more c = omega arith
-
 returns : tie.Need-returns
-returns c = refl
+returns c = start-outside _ _ (c .if1 .taken)
+
+returns-2 : tie.Need-returns-2
+returns-2 c = no-room _ _ (c .before .if1 .left) (c .if2 .taken)
+
+add-place : tie.Need-add-place
+add-place c = search needs
+
+mul-next : tie.Need-mul-next
+mul-next c = search needs
+
+element-write-next : tie.Need-element-write-next
+element-write-next c = search needs
+
+add-next : tie.Need-add-next
+add-next c = search needs
+
+returns-3 : tie.Need-returns-3
+returns-3 c = stored-there (c .before .before .args .self) (c .before .before .args .number) (c .before .if1 .left) (c .if2 .left)
 
 pub stored-spec : {M : Type 1} → statement M
-stored-spec = tie.close (tie.spec add-place mul-slots array-set-from-slots add-more returns)
+stored-spec =
+    tie.close (tie.spec returns returns-2 add-place mul-next element-write-next add-next returns-3)

@@ -35,6 +35,9 @@ write-pairs-requires c κs =
     let tested = c .before .before .before .is-well-formed in
     sym (tested .ensures) ∙ not-false (tested .result) (c .before .before .if1 .left)
 
+after-requires : tie.Need-after-requires
+after-requires c κs = search needs
+
 same-length : tie.Need-same-length
 same-length c = search needs
 
@@ -43,7 +46,8 @@ returns-3 c =
     let at = c .before .before .before .before .before in
     let args = at .before .before .before .before .args in
     let tested = at .before .before .is-well-formed in
-    lent-part-is-drained (args .self) (args .out .now) (args .start) (args .limit) _ _ (sym (tested .ensures) ∙ not-false (tested .result) (at .before .if1 .left)) (at .if2 .left) (c .before .before .before .write-pairs .ensures)
+    rw (c .after .ensures)
+    (lent-part-is-drained (args .self) (args .out .now) (args .start) (args .limit) (c .before .before .before .write-pairs .result) _ (sym (tested .ensures) ∙ not-false (tested .result) (at .before .if1 .left)) (at .if2 .left) (c .before .before .before .write-pairs .ensures))
 
 pub drain-spec : {M : Type 1} → statement M
 drain-spec =
@@ -56,5 +60,6 @@ drain-spec =
     part-write-pairs-start
     part-write-pairs-end
     write-pairs-requires
+    after-requires
     same-length
     returns-3)

@@ -1,8 +1,9 @@
--- `sender::sender::Sender::is_idle` meets its contract: 12 is tested first, and the rest is the definition's test.
+-- `sender::sender::Sender::is_idle` meets its contract: 12 is tested first, then the three parts.
 -- Assumes nothing.
-use borrow.Author.Needs.{needs}
-use borrow.Author.Tests.{not-true, not-false}
+use borrow.Author.Tests.{not-false, not-true}
+use Rattle.sender.proofs.NothingLeft.{idle-by-parts}
 use Rattle.sender.specs.Sender.{idleSender}
+use borrow.Author.Needs.{needs}
 use Rattle.sender.proofs.sender.Sender.is_idle.Statement.{statement}
 use Rattle.sender.proofs.sender.Sender.is_idle.Tie as tie
 
@@ -18,11 +19,11 @@ has-nothing-requires c κs = search needs
 
 returns-2 : tie.Need-returns-2
 unfolding idleSender
-returns-2 c = simp (← c .before .before .before .is-well-formed .ensures, not-false (c .before .before .before .is-well-formed .result) (c .before .before .if1 .left), ← c .before .has-nothing .ensures, c .if2 .taken)
+returns-2 c = simp (← c .before .before .before .before .before .is-well-formed .ensures, not-false (c .before .before .before .before .before .is-well-formed .result) (c .before .before .before .before .if1 .left), idle-by-parts, ← c .before .has-nothing .ensures, c .if2 .taken)
 
 returns-3 : tie.Need-returns-3
 unfolding idleSender
-returns-3 c = simp (← c .before .before .before .is-well-formed .ensures, not-false (c .before .before .before .is-well-formed .result) (c .before .before .if1 .left), ← c .before .has-nothing .ensures, c .if2 .left)
+returns-3 c = simp (← c .before .before .before .before .before .is-well-formed .ensures, not-false (c .before .before .before .before .before .is-well-formed .result) (c .before .before .before .before .if1 .left), idle-by-parts, ← c .before .has-nothing .ensures, c .if2 .left)
 
 pub is-idle-spec : {M : Type 1} → statement M
 is-idle-spec =

@@ -1,8 +1,8 @@
--- `sender::sender::Sender::is_well_formed` meets its contract, clause by clause.
+-- `sender::sender::Sender::is_well_formed` meets its contract: the queue's test, then that of the owed pair.
 -- Assumes nothing.
-use borrow.Author.Needs.{needs}
-use borrow.Author.Tests.{not-true, not-false}
+use borrow.Author.Tests.{not-false, not-true}
 use Rattle.sender.specs.Sender.{wellFormed}
+use borrow.Author.Needs.{needs}
 use Rattle.sender.proofs.sender.Sender.is_well_formed.Statement.{statement}
 use Rattle.sender.proofs.sender.Sender.is_well_formed.Tie as tie
 
@@ -18,7 +18,7 @@ is-well-formed-requires-2 c κs = search needs
 
 returns-2 : tie.Need-returns-2
 unfolding wellFormed
-returns-2 c = simp (← c .before .before .is-well-formed .ensures, not-false (c .before .before .is-well-formed .result) (c .before .if1 .left), c .is-well-formed2 .ensures)
+returns-2 c = simp (← c .before .before .before .is-well-formed .ensures, not-false (c .before .before .before .is-well-formed .result) (c .before .before .if1 .left), c .is-well-formed2 .ensures)
 
 pub is-well-formed-spec : {M : Type 1} → statement M
 is-well-formed-spec =
