@@ -78,11 +78,11 @@ prefix-small row = leb-true (prefixAt row .1) 96 (small-by row (ltb row 15) refl
 
 -- the code points of the code's one table are the definition's
 pub letter-point : (n : ℕ) → n < 96 → getD allPoints n 0 ≡ getD standard n 0
-unfolding standard
+unfolding standard symbols
 letter-point n less = agree (λ (x : ℕ). getD allPoints x 0) (λ (x : ℕ). getD standard x 0) 96 refl n less
 
 pub symbol-point : (n : ℕ) → n < 80 → pointOf (getD allPoints (96 + n) 0) ≡ getD symbols n 0
-unfolding symbols
+unfolding standard symbols
 symbol-point n less = agree (λ (x : ℕ). pointOf (getD allPoints (96 + x) 0)) (λ (x : ℕ). getD symbols x 0) 80 refl n less
 
 -- each letter has one

@@ -17,13 +17,10 @@ points text.[] = []
 points (text._∷_ c s) = code c ∷ points s
 
 -- the standard characters, from 0x20 to 0x7F
-abbrev pub standardPoints : List ℕ
-standardPoints =
+unfoldable pub standard : List ℕ
+standard =
     points " !\"#$%&’()á+,-./" ++ points "0123456789:;<=>?" ++ points "@ABCDEFGHIJKLMNO" ++ points "PQRSTUVWXYZ[é]íó"
     ++ points "úabcdefghijklmno" ++ points "pqrstuvwxyzç÷Ññ█"
-
-unfoldable pub standard : List ℕ
-standard = standardPoints
 
 -- the special characters, from 11 30; the transparent space has no code point and is 0 here
 abbrev pub special : List ℕ

@@ -7,7 +7,7 @@ use mathlib.Core.List.{List, [], _∷_, _++_}
 use mathlib.Core.Option.{Option, none, some}
 use lib.Dec.{eqb, ltb}
 use lib.ListN.{getD, replicate}
-use Rattle.code.specs.Characters.{standard, standardPoints, special, spanish, french, portuguese, german}
+use Rattle.code.specs.Characters.{standard, symbols, special, spanish, french, portuguese, german}
 use Rattle.code.specs.Control.{commandAt, tabAt}
 use Rattle.code.specs.Letter.{letterAt}
 use Rattle.code.specs.Read.{rowPrefixes, within}
@@ -51,7 +51,7 @@ controlEntries =
 
 -- the code points of the standard characters, then of the symbols
 abbrev pub allPoints : List ℕ
-allPoints = standardPoints ++ (special ++ (spanish ++ (french ++ (portuguese ++ german))))
+allPoints = standard ++ symbols
 
 abbrev pub codeAt : ℕ → Code
 codeAt i = cond (eqb i 0) code.Nul (code.Letter (letterAt (i - 1)))

@@ -9,7 +9,7 @@ use borrow.Author.Tests.{le-leb, le-ltb, lt-leb, lt-ltb}
 use Rattle.code.specs.Outcome.{Outcome, answer, refused}
 use Rattle.code.specs.declared.code.Code.{Code}
 use Rattle.queue.proofs.WellFormed.{formed, formed-by-the-rest, stored-has-room}
-use Rattle.queue.specs.Admission.{entryFor, entryOutcome, noneStored, numbersBy}
+use Rattle.queue.specs.Entry.{entryFor, entryOutcome, noneStored, numbersBy}
 use Rattle.queue.specs.Number.{numberOf, numbered, withNumber}
 use Rattle.queue.specs.Queue.{admit, admitBy, entered, isFull, isNul}
 use Rattle.queue.specs.Queueable.{queueable}

@@ -18,10 +18,10 @@ use Rattle.code.specs.Code.{controlNeedsBackspace, needsBackspace}
 use Rattle.code.specs.Control.{commandNumber, tabNumber}
 use Rattle.code.specs.Column.{columnAt, columnNumber}
 use Rattle.code.specs.Letter.{letterAt, letterPlace, letterRowAt, letterRowNumber}
-use Rattle.code.specs.Outcome.{answer, refused}
+use Rattle.code.specs.Outcome.{Outcome, answer, refused}
 use Rattle.code.specs.Parity.{withParity}
 use Rattle.code.specs.Read.{isCommand, meaning, orUnknown}
-use Rattle.code.specs.Write.{asSingle, controlBytes, midRowBytes, onLine, pair, preambleBytes, symbolBytes, unless, writeCode}
+use Rattle.code.specs.Write.{asSingle, controlBytes, controlInDomain, midRowBytes, onLine, pair, preambleBytes, symbolBytes, unless, writeCode}
 use Rattle.code.specs.declared.channel.Channel.{Channel}
 use Rattle.code.specs.declared.code.Code.{Code}
 use Rattle.code.specs.declared.code.Code.the-variants as code
@@ -35,7 +35,7 @@ use Rattle.code.specs.declared.letter.Letter.{Letter}
 use Rattle.code.specs.declared.letter.LetterRow.{LetterRow}
 use Rattle.code.specs.declared.pair.Pair.{Pair}
 use Rattle.code.specs.declared.preamble.PreambleAddressCode.{PreambleAddressCode}
-use Rattle.queue.specs.Number.{bytesNumber, channelOfNumber, channelNumber, codeOf, controlNumber, controlOf, controlQueueable, fieldOfNumber, fieldNumber, firstIn, numberIn, numberOf, secondIn, singleOf}
+use Rattle.queue.specs.Number.{bytesNumber, channelOfNumber, channelNumber, codeOf, controlNumber, controlOf, fieldOfNumber, fieldNumber, firstIn, numberIn, numberOf, secondIn, singleOf}
 use Rattle.queue.specs.Queue.{isSingle, mayWait, pairOf, pairWritten}
 use Rattle.queue.specs.Queueable.{isAnswer, isDressedControl, queueable, unlessDressed}
 
@@ -98,11 +98,14 @@ pub bytes-told : (n : ℕ) → controlBytes (commandIn n .control) ≡ answer (p
 bytes-told n = bytes-by (eqb (n / 0x800 % 2) 0) (firstIn n) (secondIn n) (first-from n) (first-below n) (second-below n)
 
 -- and may be queued
-control-by : (t : Bool) (a b : ℕ) → 16 ≤ a → a < 32 → b < 128 → controlQueueable (cond t (meantBy a b) (control.Unknown a b)) ≡ answer tt
+abbrev pub controlTested : Control → Outcome Unit
+controlTested c = unlessDressed (isDressedControl c) (controlInDomain c)
+
+control-by : (t : Bool) (a b : ℕ) → 16 ≤ a → a < 32 → b < 128 → controlTested (cond t (meantBy a b) (control.Unknown a b)) ≡ answer tt
 control-by true a b from below less =
-    agree-grid (λ (x y : ℕ). controlQueueable (meantBy x y)) (λ (x y : ℕ). answer tt) 16 16 128 refl a b from below less
+    agree-grid (λ (x y : ℕ). controlTested (meantBy x y)) (λ (x y : ℕ). answer tt) 16 16 128 refl a b from below less
 control-by false a b from below less =
-    agree-grid (λ (x y : ℕ). controlQueueable (control.Unknown x y)) (λ (x y : ℕ). answer tt) 16 16 128 refl a b from below less
+    agree-grid (λ (x y : ℕ). controlTested (control.Unknown x y)) (λ (x y : ℕ). answer tt) 16 16 128 refl a b from below less
 
 -- what may be queued, kind by kind
 pub letter-may : (l : Letter) → queueable (code.Letter l) ≡ answer tt
@@ -113,7 +116,7 @@ pub unknown-may : (b : ℕ) → queueable (code.Unknown b) ≡ unlessDressed fal
 unfolding queueable
 unknown-may b = ap (unlessDressed false) (unknown-domain b)
 
-pub control-may : (c : ControlCode) → queueable (code.Control c) ≡ controlQueueable (c .control)
+pub control-may : (c : ControlCode) → queueable (code.Control c) ≡ controlTested (c .control)
 unfolding queueable
 control-may c = ap (unlessDressed (isDressedControl (c .control))) (control-domain c)
 
@@ -122,7 +125,7 @@ single-may true l b less = ap isAnswer (letter-may l)
 single-may false l b less =
     ap isAnswer (unknown-may b) ∙ ap (λ (t : Bool). isAnswer (unlessDressed false (unless t 2))) (lt-ltb b 0x80 less)
 
-may-by : (t : Bool) (c : ControlCode) (s : Code) → mayWait s ≡ true → controlQueueable (c .control) ≡ answer tt → mayWait (cond t s (code.Control c)) ≡ true
+may-by : (t : Bool) (c : ControlCode) (s : Code) → mayWait s ≡ true → controlTested (c .control) ≡ answer tt → mayWait (cond t s (code.Control c)) ≡ true
 may-by true c s single command = single
 may-by false c s single command = ap isAnswer (control-may c ∙ command)
 
@@ -294,7 +297,7 @@ unknown-back f ch a b true true e first may =
 unknown-back f ch a b true false e first may = absurd (true≢false (sym may))
 unknown-back f ch a b false u e first may = absurd (true≢false (sym may))
 
-control-back : (f : CodeField) (ch : Channel) (c : Control) → isAnswer (controlQueueable c) ≡ true → codeOf (fieldNumber f + channelNumber ch + controlNumber c) ≡ code.Control (record { field = f; channel = ch; control = c })
+control-back : (f : CodeField) (ch : Channel) (c : Control) → isAnswer (controlTested c) ≡ true → codeOf (fieldNumber f + channelNumber ch + controlNumber c) ≡ code.Control (record { field = f; channel = ch; control = c })
 control-back f ch (control.MidRow m) may = meant-back f ch (control.MidRow m) (midRowBytes m) (mid-row-pair m) (mid-row-meant m)
 control-back f ch (control.Symbol s) may = meant-back f ch (control.Symbol s) (symbolBytes s) (symbol-pair s) (symbol-meant s)
 control-back f ch (control.Command c) may = meant-back f ch (control.Command c) (pair 0x14 (0x20 + commandNumber c)) (command-pair c) (command-meant c)

@@ -9,7 +9,7 @@ use lib.Dec.{eqb}
 use Rattle.code.proofs.OneAnswer.{Injective}
 use Rattle.code.specs.Outcome.{Outcome, answer, refused}
 use Rattle.code.specs.declared.pair.Pair.{Pair}
-use Rattle.queue.specs.Admission.{entryOutcome}
+use Rattle.queue.specs.Entry.{entryOutcome}
 use Rattle.queue.specs.Ring.{countAnswerOutcome, countOutcome, popAnswerOutcome, popOutcome, pushAnswerOutcome, pushOutcome}
 use Rattle.queue.specs.declared.count.CountAnswer.{CountAnswer}
 use Rattle.queue.specs.declared.count.CountAnswer.the-variants as count-answer

@@ -11,7 +11,7 @@ use lib.ListN.{drop, getD, length, set}
 use lib.Seq.{getD-set-other, getD-set-same}
 use Rattle.code.specs.declared.code.Code.{Code}
 use Rattle.queue.specs.Number.{codeOf}
-use Rattle.queue.specs.Ring.{codeAt, codesFrom, numberAt}
+use Rattle.queue.specs.Ring.{codeAtPlace, codesFrom, numberAt}
 
 -- the number at a place that is one of the ring's
 pub place-is : (places : List ℕ) (at : ℕ) → at < 64 → getD places at 0 ≡ numberAt places at
@@ -23,11 +23,11 @@ pub none-wait : (places : List ℕ) (at n : ℕ) → n ≡ 0 → codesFrom place
 none-wait places at n e = ap (codesFrom places at) e
 
 -- the first of those that wait, and the others
-pub first-waits : (places : List ℕ) (at n : ℕ) → 0 < n → codesFrom places at n ≡ codeAt places at ∷ codesFrom places (at + 1) (n - 1)
+pub first-waits : (places : List ℕ) (at n : ℕ) → 0 < n → codesFrom places at n ≡ codeAtPlace places at ∷ codesFrom places (at + 1) (n - 1)
 first-waits places at zero h = absurd (not-suc-le-zero h)
 first-waits places at (suc n) h =
     let e : n ≡ suc n - 1 = omega arith in
-    ap (λ (k : ℕ). codeAt places at ∷ codesFrom places (at + 1) k) e
+    ap (λ (k : ℕ). codeAtPlace places at ∷ codesFrom places (at + 1) k) e
 
 pub how-many : (places : List ℕ) (at n : ℕ) → length (codesFrom places at n) ≡ n
 how-many places at zero = refl
@@ -57,14 +57,14 @@ freed-in-front places at (suc n) (suc k) h =
     ap₂ (codesFrom places) on left ∙ freed-in-front places (at + 1) n k (omega arith)
 
 -- one code more is the next one
-one-more : (places : List ℕ) (at n : ℕ) → codesFrom places at (suc n) ≡ codesFrom places at n ++ (codeAt places (at + n) ∷ [])
+one-more : (places : List ℕ) (at n : ℕ) → codesFrom places at (suc n) ≡ codesFrom places at n ++ (codeAtPlace places (at + n) ∷ [])
 one-more places at zero =
     let here : at ≡ at + 0 = omega arith in
-    ap (λ (k : ℕ). codeAt places k ∷ []) here
+    ap (λ (k : ℕ). codeAtPlace places k ∷ []) here
 one-more places at (suc n) =
     let on : at + 1 + n ≡ at + suc n = omega arith in
-    ap (λ (l : List Code). codeAt places at ∷ l) (one-more places (at + 1) n)
-    ∙ ap (λ (k : ℕ). codeAt places at ∷ (codesFrom places (at + 1) n ++ (codeAt places k ∷ []))) on
+    ap (λ (l : List Code). codeAtPlace places at ∷ l) (one-more places (at + 1) n)
+    ∙ ap (λ (k : ℕ). codeAtPlace places at ∷ (codesFrom places (at + 1) n ++ (codeAtPlace places k ∷ []))) on
 
 -- what is stored k places on, at least n and fewer than 64, does not touch the first n
 untouched : (places : List ℕ) (at n k s : ℕ) → n ≤ k → k < 64 → codesFrom (set places ((at + k) % 64) s) at n ≡ codesFrom places at n

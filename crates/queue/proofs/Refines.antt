@@ -19,7 +19,7 @@ use Rattle.queue.proofs.WellFormed.{formed, stored-has-room, stored-may
 use Rattle.queue.specs.Good.{Fit, Good, seen}
 use Rattle.queue.specs.Number.{codeOf, numberOf}
 use Rattle.queue.specs.Queue.{Pop, Queued, admit, count, entered, isSingle, mayWait, pop, popCommand, popHeld, popSingle, popTwo, popWaiting, push, queued}
-use Rattle.queue.specs.Ring.{codeAt, codesFrom, countRing, freshRing, gone, heldAs, heldIn, leftIn, numberAt, popRing, pushRing, stored, view, waitingIn, wellFormed}
+use Rattle.queue.specs.Ring.{codeAtPlace, codesFrom, countRing, freshRing, gone, heldAs, heldIn, leftIn, numberAt, popRing, pushRing, stored, view, waitingIn, wellFormed}
 use Rattle.queue.specs.declared.ring.Queue.{Queue}
 
 -- the list of a well-formed ring, and back
@@ -142,12 +142,12 @@ two-keep : (numbers : ℕ → ℕ) (x y : Code) (rest : List Code) (t : Bool) �
 two-keep numbers x y rest true e second = rw e refl
 two-keep numbers x y rest false e second = rw e (keeps-at numbers y (suc (suc (length rest)) - length rest - 1) 1 (omega arith) second)
 
-single-keeps : (numbers : ℕ → ℕ) (places : List ℕ) (at n : ℕ) (x : Code) → codeOf (numbers 1) ≡ codeAt places at → Keeps numbers (x ∷ codesFrom places at n) (popSingle x (codesFrom places at n))
+single-keeps : (numbers : ℕ → ℕ) (places : List ℕ) (at n : ℕ) (x : Code) → codeOf (numbers 1) ≡ codeAtPlace places at → Keeps numbers (x ∷ codesFrom places at n) (popSingle x (codesFrom places at n))
 single-keeps numbers places at zero x second = refl
 single-keeps numbers places at (suc n) x second =
-    two-keep numbers x (codeAt places at) (codesFrom places (at + 1) n) (isSingle (codeAt places at)) refl second
+    two-keep numbers x (codeAtPlace places at) (codesFrom places (at + 1) n) (isSingle (codeAtPlace places at)) refl second
 
-waiting-keeps : (numbers : ℕ → ℕ) (places : List ℕ) (at n : ℕ) (x : Code) (t : Bool) → isSingle x ≡ t → codeOf (numbers 0) ≡ x → codeOf (numbers 1) ≡ codeAt places at → Keeps numbers (x ∷ codesFrom places at n) (popWaiting (x ∷ codesFrom places at n))
+waiting-keeps : (numbers : ℕ → ℕ) (places : List ℕ) (at n : ℕ) (x : Code) (t : Bool) → isSingle x ≡ t → codeOf (numbers 0) ≡ x → codeOf (numbers 1) ≡ codeAtPlace places at → Keeps numbers (x ∷ codesFrom places at n) (popWaiting (x ∷ codesFrom places at n))
 waiting-keeps numbers places at n x true e first second = rw e (single-keeps numbers places at n x second)
 waiting-keeps numbers places at n x false e first second =
     rw e (command-keeps numbers x (codesFrom places at n) (needsBackspace x) refl first)
@@ -157,7 +157,7 @@ held-keeps (some c) places at n = refl
 held-keeps none places at zero = refl
 held-keeps none places at (suc n) =
     let here : at + 0 ≡ at = omega arith in
-    waiting-keeps (λ (k : ℕ). numberAt places (at + k)) places (at + 1) n (codeAt places at) (isSingle (codeAt places at)) refl (ap (codeAt places) here) refl
+    waiting-keeps (λ (k : ℕ). numberAt places (at + k)) places (at + 1) n (codeAtPlace places at) (isSingle (codeAtPlace places at)) refl (ap (codeAtPlace places) here) refl
 
 pub pop-keeps-the-number : (q : Queue) → heldIn (leftIn q .held) ≡ pop (view q) .next .held
 unfolding pop

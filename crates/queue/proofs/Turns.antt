@@ -14,7 +14,7 @@ use Rattle.code.specs.declared.pair.Pair.{Pair}
 use Rattle.queue.proofs.Places.{how-many}
 use Rattle.queue.specs.Number.{codeOf}
 use Rattle.queue.specs.Queue.{Pop, byteOf, isSingle, pairOf, pop, popCommand, popSingle, popTwo, popWaiting, queued}
-use Rattle.queue.specs.Ring.{codeAt, codesFrom, heldAs, heldIn, leftIn, numberAt, view}
+use Rattle.queue.specs.Ring.{codeAtPlace, codesFrom, heldAs, heldIn, leftIn, numberAt, view}
 use Rattle.queue.specs.Turn.{commandTurn, freeing, frontTurn, singleTurn, turnBy, turnOf}
 use Rattle.queue.specs.declared.pop.Turn.{Turn}
 use Rattle.queue.specs.declared.ring.Held.{Held}
@@ -81,32 +81,32 @@ start-is places at =
     let here : at + 0 ≡ at = omega arith in
     ap (numberAt places) here
 
-command-in-ring : (places : List ℕ) (at : ℕ) (rest : List Code) (t : Bool) → needsBackspace (codeAt places at) ≡ t → ringTurn places at (codeAt places at ∷ rest) (popCommand (codeAt places at) rest) ≡ commandTurn (numberAt places at)
+command-in-ring : (places : List ℕ) (at : ℕ) (rest : List Code) (t : Bool) → needsBackspace (codeAtPlace places at) ≡ t → ringTurn places at (codeAtPlace places at ∷ rest) (popCommand (codeAtPlace places at) rest) ≡ commandTurn (numberAt places at)
 command-in-ring places at rest true e =
     rw e
     (ap₂ (λ (k i : ℕ). turning (pair 0x20 0x80) k (held.Of (numberAt places (at + i)))) (one-freed (length rest)) (ap (λ (k : ℕ). k - 1) (one-freed (length rest)))
     ∙ ap (λ (n : ℕ). turning (pair 0x20 0x80) 1 (held.Of n)) (start-is places at))
 command-in-ring places at rest false e =
-    rw e (ap (λ (k : ℕ). turning (pairOf (codeAt places at)) k held.Absent) (one-freed (length rest)))
+    rw e (ap (λ (k : ℕ). turning (pairOf (codeAtPlace places at)) k held.Absent) (one-freed (length rest)))
 
-two-in-ring : (places : List ℕ) (at : ℕ) (rest : List Code) (t : Bool) → isSingle (codeAt places (at + 1)) ≡ t → ringTurn places at (codeAt places at ∷ codeAt places (at + 1) ∷ rest) (popTwo (codeAt places at) (codeAt places (at + 1)) rest) ≡ singleTurn (numberAt places at) (numberAt places (at + 1))
+two-in-ring : (places : List ℕ) (at : ℕ) (rest : List Code) (t : Bool) → isSingle (codeAtPlace places (at + 1)) ≡ t → ringTurn places at (codeAtPlace places at ∷ codeAtPlace places (at + 1) ∷ rest) (popTwo (codeAtPlace places at) (codeAtPlace places (at + 1)) rest) ≡ singleTurn (numberAt places at) (numberAt places (at + 1))
 two-in-ring places at rest true e =
-    rw e (ap (λ (k : ℕ). turning (pair (byteOf (codeAt places at)) (byteOf (codeAt places (at + 1)))) k held.Absent) (two-freed (length rest)))
+    rw e (ap (λ (k : ℕ). turning (pair (byteOf (codeAtPlace places at)) (byteOf (codeAtPlace places (at + 1)))) k held.Absent) (two-freed (length rest)))
 two-in-ring places at rest false e =
     rw e
-    (ap₂ (λ (k i : ℕ). turning (pair (byteOf (codeAt places at)) (cond (needsBackspace (codeAt places (at + 1))) 0x20 0x80)) k (held.Of (numberAt places (at + i)))) (two-freed (length rest)) (ap (λ (k : ℕ). k - 1) (two-freed (length rest))))
+    (ap₂ (λ (k i : ℕ). turning (pair (byteOf (codeAtPlace places at)) (cond (needsBackspace (codeAtPlace places (at + 1))) 0x20 0x80)) k (held.Of (numberAt places (at + i)))) (two-freed (length rest)) (ap (λ (k : ℕ). k - 1) (two-freed (length rest))))
 
-single-in-ring : (places : List ℕ) (at n : ℕ) → isSingle (codeAt places at) ≡ true → frontTurn (numberAt places at) (numberAt places (at + 1)) (suc n) ≡ ringTurn places at (codesFrom places at (suc n)) (popSingle (codeAt places at) (codesFrom places (at + 1) n))
+single-in-ring : (places : List ℕ) (at n : ℕ) → isSingle (codeAtPlace places at) ≡ true → frontTurn (numberAt places at) (numberAt places (at + 1)) (suc n) ≡ ringTurn places at (codesFrom places at (suc n)) (popSingle (codeAtPlace places at) (codesFrom places (at + 1) n))
 single-in-ring places at zero e = last-turns (numberAt places at) (numberAt places (at + 1)) 1 refl e
 single-in-ring places at (suc n) e =
     single-turns (numberAt places at) (numberAt places (at + 1)) (suc (suc n)) (omega arith) e
-    ∙ sym (two-in-ring places at (codesFrom places (at + 1 + 1) n) (isSingle (codeAt places (at + 1))) refl)
+    ∙ sym (two-in-ring places at (codesFrom places (at + 1 + 1) n) (isSingle (codeAtPlace places (at + 1))) refl)
 
-front-in-ring : (places : List ℕ) (at n : ℕ) (t : Bool) → isSingle (codeAt places at) ≡ t → frontTurn (numberAt places at) (numberAt places (at + 1)) (suc n) ≡ ringTurn places at (codesFrom places at (suc n)) (popWaiting (codesFrom places at (suc n)))
+front-in-ring : (places : List ℕ) (at n : ℕ) (t : Bool) → isSingle (codeAtPlace places at) ≡ t → frontTurn (numberAt places at) (numberAt places (at + 1)) (suc n) ≡ ringTurn places at (codesFrom places at (suc n)) (popWaiting (codesFrom places at (suc n)))
 front-in-ring places at n true e = single-in-ring places at n e ∙ rw e refl
 front-in-ring places at n false e =
     command-turns (numberAt places at) (numberAt places (at + 1)) (suc n) (omega arith) e
-    ∙ sym (command-in-ring places at (codesFrom places (at + 1) n) (needsBackspace (codeAt places at)) refl)
+    ∙ sym (command-in-ring places at (codesFrom places (at + 1) n) (needsBackspace (codeAtPlace places at)) refl)
     ∙ rw e refl
 
 in-ring : (places : List ℕ) (at n : ℕ) (h : Held) → turnOf (numberAt places at) (numberAt places (at + 1)) n h ≡ ringTurn places at (codesFrom places at n) (pop (queued (codesFrom places at n) (heldIn h)))
@@ -115,7 +115,7 @@ in-ring places at n (held.Of k) =
     held-turn (numberAt places at) (numberAt places (at + 1)) n k
     ∙ ap (λ (i : ℕ). turning (pairOf (codeOf k)) i held.Absent) (sym (none-freed (length (codesFrom places at n))))
 in-ring places at zero held.Absent = refl
-in-ring places at (suc n) held.Absent = front-in-ring places at n (isSingle (codeAt places at)) refl
+in-ring places at (suc n) held.Absent = front-in-ring places at n (isSingle (codeAtPlace places at)) refl
 
 -- the turn by the first two numbers is the ring's pop
 abbrev pub turnIn : Queue → Turn

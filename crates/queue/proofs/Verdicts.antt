@@ -17,14 +17,19 @@ use Rattle.code.specs.declared.code.Code.{Code}
 use Rattle.code.specs.declared.code.Code.the-variants as code
 use Rattle.code.specs.declared.control.CodeField.{CodeField}
 use Rattle.code.specs.declared.control.CodeField.the-variants.{Of, Absent}
+use Rattle.code.specs.declared.control.Control.{Control}
 use Rattle.code.specs.declared.control.Control.the-variants as control
 use Rattle.code.specs.declared.control.ControlCode.{ControlCode}
 use Rattle.code.specs.declared.letter.Letter.{Letter}
 use Rattle.code.specs.declared.pair.Pair.{Pair}
 use Rattle.code.specs.declared.preamble.PreambleAddressCode.{PreambleAddressCode}
-use Rattle.queue.proofs.Numbered.{control-may, letter-may, unknown-may}
-use Rattle.queue.specs.Number.{bytesNumber, channelNumber, controlNumber, fieldNumber, numberIn, numberOf, numbered, numberedControl, numberedUnknown, whoseNumber, withNumber}
+use Rattle.queue.proofs.Numbered.{control-may, controlTested, letter-may, unknown-may}
+use Rattle.queue.specs.Number.{bytesNumber, channelNumber, controlNumber, fieldNumber, numberIn, numberOf, numbered, numberedControl, numberedUnknown, plain, whoseNumber, withNumber}
 use Rattle.queue.specs.Queueable.{queueable, unlessDressed}
+
+-- a control, by the tests of its kind
+pub as-tested : (whose : ℕ) (c : Control) (o : Outcome ℕ) → o ≡ withNumber (whose + controlNumber c) (controlTested c) → o ≡ numberedControl whose c
+as-tested whose c o e = e ∙ ap (withNumber (whose + controlNumber c)) (sym (control-may (plain c)))
 
 -- a preamble
 row-by : (whose n : ℕ) (t : Bool) (b p : Pair) → answer b ≡ cond t (answer p) (refused 3) → n ≡ bytesNumber b → answer (whose + n) ≡ withNumber (whose + numberIn (cond t (answer p) (refused 3))) (unlessDressed false (unless t 3))
@@ -32,26 +37,29 @@ row-by whose n true b p e number = ap (λ (k : ℕ). answer (whose + k)) (number
 row-by whose n false b p e number = absurd (clash e)
 
 pub row-inside : (whose n : ℕ) (p : PreambleAddressCode) (b : Pair) → answer b ≡ rowBytes p → n ≡ bytesNumber b → answer (whose + n) ≡ numberedControl whose (control.Preamble p)
-row-inside whose n p b e number = row-by whose n (leb (p .row) 14) b (preambleBytes p) e number
+row-inside whose n p b e number =
+    as-tested whose (control.Preamble p) _ (row-by whose n (leb (p .row) 14) b (preambleBytes p) e number)
 
 refused-by : (n : ℕ) (t : Bool) (p : Pair) → refused 3 ≡ cond t (answer p) (refused 3) → refused 3 ≡ withNumber n (unlessDressed false (unless t 3))
 refused-by n true p e = absurd (clash (sym e))
 refused-by n false p e = refl
 
 pub row-outside : (whose : ℕ) (p : PreambleAddressCode) → refused 3 ≡ rowBytes p → refused 3 ≡ numberedControl whose (control.Preamble p)
-row-outside whose p e = refused-by (whose + controlNumber (control.Preamble p)) (leb (p .row) 14) (preambleBytes p) e
+row-outside whose p e =
+    as-tested whose (control.Preamble p) _
+    (refused-by (whose + controlNumber (control.Preamble p)) (leb (p .row) 14) (preambleBytes p) e)
 
 -- an `Unknown` of two bytes
 pub dressed : (whose a b : ℕ) → a < 128 → b < 128 → (a / 16 ≡ 1 → ⊥) → refused 18 ≡ numberedUnknown whose a b
 dressed whose a b la lb other =
     let no : isCommand a ≡ false = sym (in-row-one a la) ∙ ne-eqb (a / 16) 1 other in
-    rw (lt-ltb a 0x80 la, lt-ltb b 0x80 lb, no) refl
+    as-tested whose (control.Unknown a b) _ (rw (lt-ltb a 0x80 la, lt-ltb b 0x80 lb, no) refl)
 
 pub passes : (whose a b n : ℕ) → a < 128 → b < 128 → a / 16 ≡ 1 → n ≡ bytesNumber (pair a b) → answer (whose + 0x800 + n) ≡ numberedUnknown whose a b
 passes whose a b n la lb first e =
     let yes : isCommand a ≡ true = sym (in-row-one a la) ∙ eq-eqb (a / 16) 1 first in
     let sum : whose + 0x800 + n ≡ whose + (0x800 + bytesNumber (pair a b)) = omega (arith, e) in
-    rw (lt-ltb a 0x80 la, lt-ltb b 0x80 lb, yes) (ap answer sum)
+    as-tested whose (control.Unknown a b) _ (rw (lt-ltb a 0x80 la, lt-ltb b 0x80 lb, yes) (ap answer sum))
 
 -- its field and channel
 pub field-at-most : (f : CodeField) → fieldNumber f ≤ 0x4000
@@ -77,7 +85,7 @@ pub by-control : (c : ControlCode) (w : ℕ) (o : Outcome ℕ) → w ≡ whoseNu
 by-control c w o whose e =
     e
     ∙ ap (λ (n : ℕ). numberedControl n (c .control)) whose
-    ∙ ap (withNumber (numberOf (code.Control c))) (sym (control-may c))
+    ∙ ap (withNumber (numberOf (code.Control c))) (control-may (plain (c .control)) ∙ sym (control-may c))
 
 -- and a single code
 pub nul-passes : answer 0 ≡ numbered code.Nul

@@ -2,7 +2,7 @@ pub mod Queueable
 pub mod Number
 pub mod Queue
 pub mod Ring
-pub mod Admission
+pub mod Entry
 pub mod Turn
 pub mod Good
 pub mod Calls

@@ -9,7 +9,7 @@ use Rattle.code.specs.Channel.{channelOne, channelTwo, fieldOne, fieldTwo}
 use Rattle.code.specs.Letter.{letterAt, letterPlace}
 use Rattle.code.specs.Outcome.{Outcome, answer, refused}
 use Rattle.code.specs.Read.{meaning, orUnknown}
-use Rattle.code.specs.Write.{controlBytes, controlInDomain}
+use Rattle.code.specs.Write.{controlBytes}
 use Rattle.code.specs.declared.channel.Channel.{Channel}
 use Rattle.code.specs.declared.code.Code.{Code}
 use Rattle.code.specs.declared.code.Code.the-variants as code
@@ -19,7 +19,7 @@ use Rattle.code.specs.declared.control.Control.{Control}
 use Rattle.code.specs.declared.control.Control.the-variants as control
 use Rattle.code.specs.declared.control.ControlCode.{ControlCode}
 use Rattle.code.specs.declared.pair.Pair.{Pair}
-use Rattle.queue.specs.Queueable.{isDressedControl, queueable, unlessDressed}
+use Rattle.queue.specs.Queueable.{queueable}
 
 -- the code of a number: a command by what its two bytes mean, with 14 for 15 where it names a field, or by its bytes
 -- alone where it is an `Unknown`; a single code by its byte, which is an `Unknown` too below 20
@@ -91,12 +91,13 @@ withNumber n (refused k) = refused k
 abbrev pub numbered : Code → Outcome ℕ
 numbered c = withNumber (numberOf c) (queueable c)
 
--- the same of a control, by the part of the number that is not its own
-abbrev pub controlQueueable : Control → Outcome Unit
-controlQueueable c = unlessDressed (isDressedControl c) (controlInDomain c)
+-- the same of a control, by the part of the number that its field and channel make; whether it may be queued is the same
+-- for each of them
+abbrev pub plain : Control → ControlCode
+plain c = record { field = Absent; channel = channelOne; control = c }
 
 abbrev pub numberedControl : ℕ → Control → Outcome ℕ
-numberedControl whose c = withNumber (whose + controlNumber c) (controlQueueable c)
+numberedControl whose c = withNumber (whose + controlNumber c) (queueable (code.Control (plain c)))
 
 abbrev pub numberedUnknown : ℕ → ℕ → ℕ → Outcome ℕ
 numberedUnknown whose a b = numberedControl whose (control.Unknown a b)

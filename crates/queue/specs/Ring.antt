@@ -28,13 +28,13 @@ use Rattle.queue.specs.declared.ring.Queue.{Queue}
 abbrev pub numberAt : List ℕ → ℕ → ℕ
 numberAt places at = getD places (at % 64) 0
 
-abbrev pub codeAt : List ℕ → ℕ → Code
-codeAt places at = codeOf (numberAt places at)
+abbrev pub codeAtPlace : List ℕ → ℕ → Code
+codeAtPlace places at = codeOf (numberAt places at)
 
 -- the n codes from a place on
 abbrev pub codesFrom : List ℕ → ℕ → ℕ → List Code
 codesFrom places at zero = []
-codesFrom places at (suc n) = codeAt places at ∷ codesFrom places (at + 1) n
+codesFrom places at (suc n) = codeAtPlace places at ∷ codesFrom places (at + 1) n
 
 abbrev pub waitingIn : Queue → List Code
 waitingIn q = codesFrom (q .places) (q .start) (q .waiting)

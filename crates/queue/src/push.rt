@@ -1,11 +1,11 @@
 // Putting a code into the queue.
 ghost use mathlib.Core.Path.{_≡_};
 ghost use Prim.Native.Nat.{_<_};
-ghost use Rattle.queue.specs.Admission.{entryFor, entryOutcome};
+ghost use Rattle.queue.specs.Entry.{entryFor, entryOutcome};
 ghost use Rattle.queue.specs.Queue.{isNul};
 ghost use Rattle.queue.specs.Ring.{pushOutcome, pushRing, storedWhereRoom};
 use crate::queueable::Verdict;
-use crate::queueable::queueable;
+use crate::queueable::numbered;
 use crate::ring::Held;
 use crate::ring::Queue;
 use crate::well_formed::is_formed;
@@ -56,7 +56,7 @@ pub fn entry_for(start: usize, waiting: usize, held: Held, code: Code) -> Entry
     if is_nul(code) {
         return Entry::Unchanged(PushAnswer::Accepted);
     }
-    match queueable(code) {
+    match numbered(code) {
         Verdict::Passes(number) => {
             if 64 <= waiting {
                 Entry::Unchanged(PushAnswer::Full)

@@ -1,7 +1,7 @@
 // Which codes may be queued, and the number of each that may.
 ghost use mathlib.Core.Path.{_≡_};
 ghost use Prim.Native.Nat.{_≤_};
-ghost use Rattle.queue.specs.Admission.{verdictOutcome};
+ghost use Rattle.queue.specs.Entry.{verdictOutcome};
 ghost use Rattle.queue.specs.Number.{fieldNumber, numbered, numberedControl, numberedUnknown, whoseNumber};
 use crate::number::bytes_number;
 use code::Code;
@@ -77,8 +77,8 @@ fn number_control(whose: u16, control: Control) -> Verdict
     }
 }
 
-// Whether a code may be queued, and its number. NUL passes; its number is never stored.
-pub(crate) fn queueable(code: Code) -> Verdict
+// The number of a code that may be queued. NUL may; its number is never stored.
+pub(crate) fn numbered(code: Code) -> Verdict
     ensures { λ r. ⌜ verdictOutcome r ≡ numbered code ⌝ }
 {
     match code {

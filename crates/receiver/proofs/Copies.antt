@@ -18,7 +18,7 @@ use Rattle.event.specs.declared.event.Cea608.{Cea608}
 use Rattle.receiver.proofs.Step.{command-acts, IsCommand, repeat-is-skipped, step-command}
 use Rattle.receiver.specs.Heard.{eventOf}
 use Rattle.receiver.specs.Reading.{answers, steps}
-use Rattle.receiver.specs.Receiver.{acts, fieldAfter, isLast, state, step, Stepped}
+use Rattle.receiver.specs.Receiver.{acts, fieldAfter, isLast, state, Stepped}
 use Rattle.receiver.specs.declared.state.Cea608State.{Cea608State}
 use Rattle.receiver.specs.declared.state.LastField.{LastField}
 use Rattle.receiver.specs.declared.state.LastPair.the-variants as last

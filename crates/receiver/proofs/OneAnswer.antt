@@ -8,7 +8,6 @@ use Rattle.receiver.specs.Heard.{heardOutcome}
 use Rattle.receiver.specs.Receiver.{decodedOutcome, Stepped}
 use Rattle.receiver.specs.declared.heard.Heard.{Heard}
 use Rattle.receiver.specs.declared.heard.Heard.the-variants as heard
-use Rattle.receiver.specs.declared.state.Decoded.{Decoded}
 
 pub heard-injective : Injective heardOutcome
 heard-injective (heard.Event a) (heard.Event b) e = cc

@@ -1,6 +1,5 @@
 -- Reading a list of pairs, in the port's own words: the fold of the receiver's step, and `readOnce`, the same with no
 -- test for repeats, so that every command acts.
-use Prim.Native.Nat.{ℕ}
 use mathlib.Core.List.{List, [], _∷_}
 use mathlib.Core.Option.{Option, none, some}
 use Rattle.code.specs.Outcome.{Outcome, answer, refused}

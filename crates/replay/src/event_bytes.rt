@@ -4,7 +4,6 @@ use crate::from_bytes;
 use crate::to_bytes;
 use code::Channel;
 use code::Character;
-use code::MidRow;
 use code::PreambleAddressCode;
 use event::Cea608;
 use event::Mode;

@@ -10,7 +10,6 @@ mod sender_query;
 mod to_bytes;
 
 ghost use Prim.Native.Nat.{_+_, _≤_};
-ghost use mathlib.Core.Path.{_≡_};
 ghost use lib.ListN.{length};
 use crate::query::State;
 use libc::STDIN_FILENO;

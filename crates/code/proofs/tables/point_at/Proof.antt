@@ -3,8 +3,10 @@
 use Rattle.code.proofs.Keys.{last-key}
 use Rattle.code.proofs.tables.point_at.Statement.{statement}
 use Rattle.code.proofs.tables.point_at.Tie as tie
+use Rattle.code.specs.Characters.{standard, symbols}
 
 pub point-at-spec : {M : Type 1} → statement M
+unfolding standard symbols
 point-at-spec =
     tie.close
     (tie.spec

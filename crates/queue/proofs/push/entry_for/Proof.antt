@@ -4,7 +4,7 @@ use borrow.Author.Tests.{not-false, not-true}
 use mathlib.Core.Bool.{true, false}
 use mathlib.Core.Path.{_≡_, ap, sym, _∙_}
 use Rattle.queue.proofs.Entries.{full-entry, ill-formed-entry, nul-entry, refused-entry, stored-entry}
-use Rattle.queue.specs.Admission.{verdictOutcome}
+use Rattle.queue.specs.Entry.{verdictOutcome}
 use Rattle.queue.specs.Queue.{isNul}
 use Rattle.queue.specs.Ring.{formedBy}
 use borrow.Author.Needs.{needs}
@@ -30,8 +30,8 @@ is-nul-requires c κs = search needs
 returns-2 : tie.Need-returns-2
 returns-2 c = nul-entry _ _ _ _ (is-formed (c .before .before)) (sym (c .before .is-nul .ensures) ∙ c .if2 .taken)
 
-queueable-requires : tie.Need-queueable-requires
-queueable-requires c κs = search needs
+numbered-requires : tie.Need-numbered-requires
+numbered-requires c κs = search needs
 
 enum-known-number : tie.Need-enum-known-number
 enum-known-number c = search needs
@@ -46,19 +46,19 @@ enum-told-3 : tie.Need-enum-told-3
 enum-told-3 c = search needs
 
 returns-3 : tie.Need-returns-3
-returns-3 c = full-entry _ _ _ _ _ (is-formed (c .before .before .before .before .before .before .before)) (is-code (c .before .before .before .before .before)) (sym (ap verdictOutcome (c .before .before .number .given .1)) ∙ c .before .before .before .before .queueable .ensures) (c .if3 .taken)
+returns-3 c = full-entry _ _ _ _ _ (is-formed (c .before .before .before .before .before .before .before)) (is-code (c .before .before .before .before .before)) (sym (ap verdictOutcome (c .before .before .number .given .1)) ∙ c .before .before .before .before .numbered .ensures) (c .if3 .taken)
 
 returns-4 : tie.Need-returns-4
-returns-4 c = stored-entry _ _ _ _ _ (is-formed (c .before .before .before .before .before .before .before)) (is-code (c .before .before .before .before .before)) (sym (ap verdictOutcome (c .before .before .number .given .1)) ∙ c .before .before .before .before .queueable .ensures) (c .if3 .left)
+returns-4 c = stored-entry _ _ _ _ _ (is-formed (c .before .before .before .before .before .before .before)) (is-code (c .before .before .before .before .before)) (sym (ap verdictOutcome (c .before .before .number .given .1)) ∙ c .before .before .before .before .numbered .ensures) (c .if3 .left)
 
 returns-5 : tie.Need-returns-5
-returns-5 c = refused-entry _ _ _ _ _ (is-formed (c .before .before .before .before .before)) (is-code (c .before .before .before)) (sym (ap verdictOutcome (c .enum-told .given .1)) ∙ c .before .before .queueable .ensures)
+returns-5 c = refused-entry _ _ _ _ _ (is-formed (c .before .before .before .before .before)) (is-code (c .before .before .before)) (sym (ap verdictOutcome (c .enum-told .given .1)) ∙ c .before .before .numbered .ensures)
 
 returns-6 : tie.Need-returns-6
-returns-6 c = refused-entry _ _ _ _ _ (is-formed (c .before .before .before .before .before)) (is-code (c .before .before .before)) (sym (ap verdictOutcome (c .enum-told2 .given .1)) ∙ c .before .before .queueable .ensures)
+returns-6 c = refused-entry _ _ _ _ _ (is-formed (c .before .before .before .before .before)) (is-code (c .before .before .before)) (sym (ap verdictOutcome (c .enum-told2 .given .1)) ∙ c .before .before .numbered .ensures)
 
 returns-7 : tie.Need-returns-7
-returns-7 c = refused-entry _ _ _ _ _ (is-formed (c .before .before .before .before .before)) (is-code (c .before .before .before)) (sym (ap verdictOutcome (c .enum-told3 .given .1)) ∙ c .before .before .queueable .ensures)
+returns-7 c = refused-entry _ _ _ _ _ (is-formed (c .before .before .before .before .before)) (is-code (c .before .before .before)) (sym (ap verdictOutcome (c .enum-told3 .given .1)) ∙ c .before .before .numbered .ensures)
 
 pub entry-for-spec : {M : Type 1} → statement M
 entry-for-spec =
@@ -68,7 +68,7 @@ entry-for-spec =
     returns
     is-nul-requires
     returns-2
-    queueable-requires
+    numbered-requires
     enum-known-number
     enum-told
     enum-told-2

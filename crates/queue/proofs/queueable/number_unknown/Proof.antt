@@ -1,16 +1,17 @@
 -- `queue::queueable::number_unknown` meets its contract: 2 by the two bytes, then 18 by the first.
 -- Assumes nothing.
-use Rattle.queue.proofs.Verdicts.{dressed, passes}
+use Rattle.queue.proofs.Verdicts.{as-tested, dressed, passes}
+use Rattle.code.specs.declared.control.Control.the-variants as control
 use borrow.Author.Tests.{le-ltb, lt-ltb}
 use borrow.Author.Needs.{needs}
 use Rattle.queue.proofs.queueable.number_unknown.Statement.{statement}
 use Rattle.queue.proofs.queueable.number_unknown.Tie as tie
 
 returns : tie.Need-returns
-returns c = simp (le-ltb _ _ (c .if1 .taken))
+returns c = as-tested _ (control.Unknown _ _) _ (simp (le-ltb _ _ (c .if1 .taken)))
 
 returns-2 : tie.Need-returns-2
-returns-2 c = simp (lt-ltb _ _ (c .before .if1 .left), le-ltb _ _ (c .if2 .taken))
+returns-2 c = as-tested _ (control.Unknown _ _) _ (simp (lt-ltb _ _ (c .before .if1 .left), le-ltb _ _ (c .if2 .taken)))
 
 returns-3 : tie.Need-returns-3
 returns-3 c = dressed _ _ _ (c .before .before .if1 .left) (c .before .if2 .left) (c .if3 .taken)

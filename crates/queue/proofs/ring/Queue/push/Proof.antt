@@ -3,7 +3,7 @@
 use mathlib.Core.Path.{ap, sym, _∙_}
 use Rattle.code.specs.Outcome.{Outcome, answer}
 use Rattle.queue.proofs.Entries.{pushed-by}
-use Rattle.queue.specs.Admission.{entryOutcome}
+use Rattle.queue.specs.Entry.{entryOutcome}
 use Rattle.queue.specs.declared.push.Entry.the-variants as entry
 use Rattle.queue.specs.declared.ring.Queue.{Queue}
 use borrow.Author.Needs.{needs}

@@ -5,7 +5,7 @@ use mathlib.Core.Bool.{true}
 use mathlib.Core.Path.{_≡_, ap, sym, _∙_}
 use Rattle.code.specs.Outcome.{Outcome, answer}
 use Rattle.queue.proofs.Entries.{pushed-by}
-use Rattle.queue.specs.Admission.{entryOutcome}
+use Rattle.queue.specs.Entry.{entryOutcome}
 use Rattle.queue.specs.declared.push.Entry.the-variants as entry
 use Rattle.queue.specs.declared.ring.Queue.{Queue}
 use Rattle.sender.proofs.Refines.{ill-formed-push}

@@ -1,10 +1,10 @@
--- `queue::queueable::queueable` meets its contract, by the kind of the code.
+-- `queue::queueable::numbered` meets its contract, by the kind of the code.
 -- Assumes nothing.
 use native.Mathlib.Omega.{arith}
 use Rattle.queue.proofs.Verdicts.{by-control, byte-passes, byte-refused, letter-passes, nul-passes, whose-at-most}
 use borrow.Author.Needs.{needs}
-use Rattle.queue.proofs.queueable.queueable.Statement.{statement}
-use Rattle.queue.proofs.queueable.queueable.Tie as tie
+use Rattle.queue.proofs.queueable.numbered.Statement.{statement}
+use Rattle.queue.proofs.queueable.numbered.Tie as tie
 
 enum-told : tie.Need-enum-told
 enum-told c = search needs
@@ -54,8 +54,8 @@ returns-4 c = rw (c .before .before .code3 .given .1) (byte-passes _ (c .if1 .ta
 returns-5 : tie.Need-returns-5
 returns-5 c = rw (c .before .before .code3 .given .1) (byte-refused _ (c .if1 .left))
 
-pub queueable-spec : {M : Type 1} → statement M
-queueable-spec =
+pub numbered-spec : {M : Type 1} → statement M
+numbered-spec =
     tie.close
     (tie.spec
     enum-told
