@@ -1,19 +1,21 @@
 -- What a push stores, test by test in the order of the refusals, and the ring that it leaves.
 -- Assumes nothing.
-use mathlib.Core.Bool.{Bool, true, false, cond}
+use mathlib.Core.Bool.{Bool, true, false, cond, _&&_}
 use mathlib.Core.List.{List, [], _∷_}
 use mathlib.Core.Path.{_≡_, refl, ap, sym, _∙_}
 use Prim.Native.Nat.{ℕ, _≤_, _<_}
 use native.Mathlib.Omega.{arith}
-use borrow.Author.Tests.{le-leb, le-ltb, lt-leb, lt-ltb}
+use borrow.Author.Tests.{le-leb, lt-leb, ltb-true}
+use lib.Dec.{leb, ltb}
+use Rattle.code.proofs.Both.{both-left}
 use Rattle.code.specs.Outcome.{Outcome, answer, refused}
 use Rattle.code.specs.declared.code.Code.{Code}
-use Rattle.queue.proofs.WellFormed.{formed, formed-by-the-rest, stored-has-room}
+use Rattle.queue.proofs.WellFormed.{formed-by-the-rest, stored-has-room}
 use Rattle.queue.specs.Entry.{entryFor, entryOutcome, noneStored, numbersBy}
 use Rattle.queue.specs.Number.{numberOf, numbered, withNumber}
 use Rattle.queue.specs.Queue.{admit, admitBy, entered, isFull, isNul}
 use Rattle.queue.specs.Queueable.{queueable}
-use Rattle.queue.specs.Ring.{formedBy, pushAnswerOutcome, pushRing, stored, storedNumber, storedWhereRoom, wellFormed}
+use Rattle.queue.specs.Ring.{formedBy, heldFits, heldIn, pushAnswerOutcome, pushRing, stored, storedNumber, wellFormed}
 use Rattle.queue.specs.declared.push.Entry.{Entry}
 use Rattle.queue.specs.declared.push.Entry.the-variants as entry
 use Rattle.queue.specs.declared.ring.Held.{Held}
@@ -57,7 +59,7 @@ stored-entry s w h c n e nul verdict room =
 
 -- the ring that an entry leaves: a number is stored, or it is the same
 abbrev pub leaves : Entry → Queue → Outcome Unit × Queue
-leaves (entry.Stored n) q = (answer tt, storedWhereRoom q n)
+leaves (entry.Stored n) q = (answer tt, storedNumber q n)
 leaves (entry.Unchanged a) q = (pushAnswerOutcome a, q)
 
 stored-by : (t : Bool) (m : ℕ) (o : Outcome Bool) (n : ℕ) → answer (n ∷ []) ≡ cond t (numbersBy m o) (refused 12) → (t ≡ true) × (o ≡ answer true) × (n ≡ m)
@@ -76,23 +78,16 @@ same-by true m (refused j) (refused k) more same e = let z : k ≡ j = cc in rw 
 same-by false m o (answer u) more same e = let z : _≡_ {A = ℕ} 0 1 = cc in absurd (omega arith)
 same-by false m o (refused k) more same e = let z : k ≡ 12 = cc in rw z refl
 
--- where there is room a number is stored as its code is
-pub start-outside : (q : Queue) (n : ℕ) → 64 ≤ q .start → q ≡ storedWhereRoom q n
-start-outside q n outside = rw (le-ltb (q .start) 64 outside) refl
+-- a number is stored only where there is room for it
+pub entry-has-room : (s w : ℕ) (h : Held) (c : Code) (n : ℕ) → answer (n ∷ []) ≡ entryFor s w h c → (s < 64) × (w < 64)
+unfolding entryFor
+entry-has-room s w h c n e =
+    let known = stored-by (formedBy s w h) (numberOf c) (admit c w) n e in
+    let two = both-left (ltb s 64 && leb w 64) (heldFits (heldIn h)) (known .0) in
+    (ltb-true s 64 (both-left (ltb s 64) (leb w 64) two), stored-has-room c w (known .1))
 
-pub no-room : (q : Queue) (n : ℕ) → q .start < 64 → 64 ≤ q .waiting → q ≡ storedWhereRoom q n
-no-room q n start full = rw (lt-ltb (q .start) 64 start, le-ltb (q .waiting) 64 full) refl
-
-pub stored-there : (q : Queue) (n : ℕ) → q .start < 64 → q .waiting < 64 → storedNumber q n ≡ storedWhereRoom q n
-stored-there q n start room = rw (lt-ltb (q .start) 64 start, lt-ltb (q .waiting) 64 room) refl
-
-stored-alike : (q : Queue) (c : Code) (n : ℕ) → q .start < 64 → q .waiting < 64 → n ≡ numberOf c → storedWhereRoom q n ≡ stored q c
-stored-alike q c n start room e = sym (stored-there q n start room) ∙ ap (storedNumber q) e
-
-entered-stored : (q : Queue) (c : Code) (n : ℕ) → wellFormed q ≡ true → admit c (q .waiting) ≡ answer true → n ≡ numberOf c → (answer tt, storedWhereRoom q n) ≡ cond (wellFormed q) (entered (admit c (q .waiting)) (stored q c) q) (refused 12, q)
-entered-stored q c n is-formed e number =
-    rw (is-formed, e)
-    (ap {B = Outcome Unit × Queue} (λ (r : Queue). (answer tt, r)) (stored-alike q c n (formed q is-formed .start) (stored-has-room c (q .waiting) e) number))
+entered-stored : (q : Queue) (c : Code) (n : ℕ) → wellFormed q ≡ true → admit c (q .waiting) ≡ answer true → n ≡ numberOf c → (answer tt, storedNumber q n) ≡ cond (wellFormed q) (entered (admit c (q .waiting)) (stored q c) q) (refused 12, q)
+entered-stored q c n is-formed e number = rw (is-formed, e, number) refl
 
 pub pushed-by : (e : Entry) (q : Queue) (c : Code) → entryOutcome e ≡ entryFor (q .start) (q .waiting) (q .held) c → leaves e q ≡ pushRing q c
 unfolding entryFor pushRing

@@ -84,10 +84,6 @@ storedNumber q n = record {
 abbrev pub stored : Queue → Code → Queue
 stored q c = storedNumber q (numberOf c)
 
--- of any state: where there is no such place nothing is stored, and nothing is lost
-abbrev pub storedWhereRoom : Queue → ℕ → Queue
-storedWhereRoom q n = cond (ltb (q .start) 64 && ltb (q .waiting) 64) (storedNumber q n) q
-
 unfoldable pub pushRing : Queue → Code → Outcome Unit × Queue
 pushRing q c = tested q (entered (admit c (q .waiting)) (stored q c) q)
 

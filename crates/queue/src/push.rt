@@ -1,9 +1,8 @@
 // Putting a code into the queue.
 ghost use mathlib.Core.Path.{_≡_};
-ghost use Prim.Native.Nat.{_<_};
 ghost use Rattle.queue.specs.Entry.{entryFor, entryOutcome};
 ghost use Rattle.queue.specs.Queue.{isNul};
-ghost use Rattle.queue.specs.Ring.{pushOutcome, pushRing, storedWhereRoom};
+ghost use Rattle.queue.specs.Ring.{pushOutcome, pushRing};
 use crate::queueable::Verdict;
 use crate::queueable::numbered;
 use crate::ring::Held;
@@ -71,45 +70,26 @@ pub fn entry_for(start: usize, waiting: usize, held: Held, code: Code) -> Entry
 }
 
 impl Queue {
-    // The queue with a number at the place after the last, wrapping around to place 0. Where there is no such place the
-    // queue comes back as it was.
-    pub fn stored(self, number: u16) -> Queue
-        ensures { λ r. ⌜ r ≡ storedWhereRoom self number ⌝ }
-    {
-        let start = self.start;
-        let waiting = self.waiting;
-        if 64 <= start {
-            return self;
-        }
-        if 64 <= waiting {
-            return self;
-        }
-        let place = (start + waiting) % 64;
-        let mut next = self;
-        next.places[place] = number;
-        next.waiting = waiting + 1;
-        next
-    }
-
-    // Puts a code after those that wait. NUL is accepted and not stored; a refusal hands the queue back as it was.
+    // Puts a code after those that wait, wrapping around to place 0. NUL is accepted and not stored; a refusal hands the
+    // queue back as it was. The two ways meet before the answer is made: the compiler then copies the ring once.
     pub fn push(self, code: Code) -> Pushed
         ensures { λ r. ⌜ pushOutcome r ≡ pushRing self code ⌝ }
     {
-        let start = self.start;
-        let waiting = self.waiting;
-        let held = self.held;
-        match entry_for(start, waiting, held, code) {
+        let mut queue = self;
+        let start = queue.start;
+        let waiting = queue.waiting;
+        let held = queue.held;
+        let answer = match entry_for(start, waiting, held, code) {
             Entry::Stored(number) => {
-                let next = self.stored(number);
-                Pushed {
-                    answer: PushAnswer::Accepted,
-                    queue: next,
-                }
+                queue.places[(start + waiting) % 64] = number;
+                queue.waiting = waiting + 1;
+                PushAnswer::Accepted
             }
-            Entry::Unchanged(answer) => Pushed {
-                answer: answer,
-                queue: self,
-            },
+            Entry::Unchanged(answer) => answer,
+        };
+        Pushed {
+            queue: queue,
+            answer: answer,
         }
     }
 }

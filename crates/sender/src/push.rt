@@ -24,25 +24,24 @@ impl Sender {
                 sender: self,
             };
         }
-        let queue = self.queue;
+        let mut queue = self.queue;
         let start = queue.start;
         let waiting = queue.waiting;
         let held = queue.held;
-        match entry_for(start, waiting, held, code) {
+        let answer = match entry_for(start, waiting, held, code) {
             Entry::Stored(number) => {
-                let next = queue.stored(number);
-                Pushed {
-                    answer: PushAnswer::Accepted,
-                    sender: Sender {
-                        queue: next,
-                        repeats: repeats,
-                    },
-                }
+                queue.places[(start + waiting) % 64] = number;
+                queue.waiting = waiting + 1;
+                PushAnswer::Accepted
             }
-            Entry::Unchanged(answer) => Pushed {
-                answer: answer,
-                sender: self,
+            Entry::Unchanged(answer) => answer,
+        };
+        Pushed {
+            sender: Sender {
+                queue: queue,
+                repeats: repeats,
             },
+            answer: answer,
         }
     }
 }

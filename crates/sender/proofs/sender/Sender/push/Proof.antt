@@ -2,15 +2,18 @@
 -- Assumes nothing.
 use borrow.Author.Tests.{not-true, not-false}
 use mathlib.Core.Bool.{true}
+use mathlib.Core.List.{[], _∷_}
 use mathlib.Core.Path.{_≡_, ap, sym, _∙_}
-use Rattle.code.specs.Outcome.{Outcome, answer}
-use Rattle.queue.proofs.Entries.{pushed-by}
-use Rattle.queue.specs.Entry.{entryOutcome}
+use Prim.Native.Nat.{_<_}
+use native.Mathlib.Omega.{arith}
+use Rattle.code.specs.Outcome.{answer}
+use Rattle.code.specs.declared.code.Code.{Code}
+use Rattle.queue.proofs.Entries.{entry-has-room, pushed-by}
+use Rattle.queue.specs.Entry.{entryFor, entryOutcome}
 use Rattle.queue.specs.declared.push.Entry.the-variants as entry
-use Rattle.queue.specs.declared.ring.Queue.{Queue}
 use Rattle.sender.proofs.Refines.{ill-formed-push}
 use Rattle.sender.proofs.RepeatsFit.{by-queue, repeats-fail}
-use Rattle.sender.specs.Sender.{repeatsFit, sender}
+use Rattle.sender.specs.Sender.{repeatsFit}
 use Rattle.sender.specs.declared.sender.Sender.{Sender}
 use borrow.Author.Needs.{needs}
 use Rattle.sender.proofs.sender.Sender.push.Statement.{statement}
@@ -19,6 +22,19 @@ use Rattle.sender.proofs.sender.Sender.push.Tie as tie
 -- what is known once the owed pair is tested
 repeats-pass : (c : tie.Else1) → repeatsFit (c .before .before .before .args .self .repeats) ≡ true
 repeats-pass c = sym (c .before .is-well-formed .ensures) ∙ not-false (c .before .is-well-formed .result) (c .if1 .left)
+
+-- and where the entry is a number
+abbrev handed : tie.After-known-told → Sender
+handed c = c .before .before .before .before .before .before .before .before .args .self
+
+abbrev code : tie.After-known-told → Code
+code c = c .before .before .before .before .before .before .before .before .args .code
+
+stored-entry : (c : tie.After-known-told) → answer (c .before .number .given .0 .0 ∷ []) ≡ entryFor (handed c .queue .start) (handed c .queue .waiting) (handed c .queue .held) (code c)
+stored-entry c = sym (ap entryOutcome (c .before .number .given .1)) ∙ c .before .before .before .entry-for .ensures
+
+has-room : (c : tie.After-known-told) → (handed c .queue .start < 64) × (handed c .queue .waiting < 64)
+has-room c = entry-has-room _ _ _ _ _ (stored-entry c)
 
 is-well-formed-requires : tie.Need-is-well-formed-requires
 is-well-formed-requires c κs = search needs
@@ -34,19 +50,24 @@ entry-for-requires c κs = search needs
 enum-known-number : tie.Need-enum-known-number
 enum-known-number c = search needs
 
-stored-requires : tie.Need-stored-requires
-stored-requires c κs = search needs
+add-queue : tie.Need-add-queue
+add-queue c = let room = has-room c in omega arith
+
+mul-queue : tie.Need-mul-queue
+mul-queue c = search needs
+
+element-write-queue : tie.Need-element-write-queue
+element-write-queue c = search needs
+
+add-queue-2 : tie.Need-add-queue-2
+add-queue-2 c = let room = has-room c in omega arith
 
 enum-known-answer : tie.Need-enum-known-answer
 enum-known-answer c = search needs
 
 returns-2 : tie.Need-returns-2
 returns-2 c =
-    let asked = c .before .before .before .before in
-    let s = asked .before .before .before .before .before .args .self in
-    let done = pushed-by (entry.Stored _) (s .queue) _ (sym (ap entryOutcome (c .before .before .number .given .1)) ∙ asked .entry-for .ensures) in
-    ap {B = Outcome Unit × Sender} (λ (q : Queue). (answer tt, sender q (s .repeats))) (c .stored .ensures)
-    ∙ by-queue s _ _ _ (repeats-pass (asked .before .before)) done
+    by-queue (handed c) _ _ _ (repeats-pass (c .before .before .before .before .before)) (pushed-by (entry.Stored _) (handed c .queue) _ (stored-entry c))
 
 returns-3 : tie.Need-returns-3
 returns-3 c =
@@ -63,7 +84,10 @@ push-spec =
     returns
     entry-for-requires
     enum-known-number
-    stored-requires
+    add-queue
+    mul-queue
+    element-write-queue
+    add-queue-2
     enum-known-answer
     returns-2
     returns-3)
