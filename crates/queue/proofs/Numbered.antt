@@ -2,7 +2,7 @@
 -- a code's length, its bytes and whether it needs a backspace are told by its number alone.
 -- Assumes nothing.
 use mathlib.Core.Bool.{Bool, true, false, cond, _&&_, _||_, not, true≢false}
-use mathlib.Core.Option.{Option, some}
+use mathlib.Core.Option.{Option, Option·map, some}
 use mathlib.Core.Path.{_≡_, refl, ap, ap₂, sym, _∙_}
 use Prim.Native.Nat.{ℕ, _+_, _*_, _-_, _/_, _%_, _≤_, _<_}
 use native.Mathlib.Omega.{arith}
@@ -10,7 +10,7 @@ use borrow.Author.Tests.{le-leb, leb-false, leb-true, lt-leb, lt-ltb, ltb-true}
 use lib.Dec.{eqb, leb, ltb}
 use Rattle.code.proofs.Agree.{agree, agree-from, agree-grid}
 use Rattle.code.proofs.Both.{both-left, both-right}
-use Rattle.code.proofs.KindByKind.{control-domain, control-written, letter-domain, letter-written, unknown-domain, unknown-written}
+use Rattle.code.proofs.KindByKind.{control-domain, control-written, letter-domain, letter-written, nul-domain, unknown-domain, unknown-written}
 use Rattle.code.proofs.MeantBack.{command-meant, command-pair, isPairOfControl, mid-row-meant, mid-row-pair, preamble-meant, preamble-pair, symbol-meant, symbol-pair, tab-meant, tab-pair}
 use Rattle.code.proofs.Numbers.{column-back, letter-row-back, letter-small}
 use Rattle.code.specs.Channel.{channelOne, channelTwo, fieldOne, fieldTwo}
@@ -108,6 +108,10 @@ control-by false a b from below less =
     agree-grid (λ (x y : ℕ). controlTested (control.Unknown x y)) (λ (x y : ℕ). answer tt) 16 16 128 refl a b from below less
 
 -- what may be queued, kind by kind
+pub nul-may : queueable code.Nul ≡ answer tt
+unfolding queueable
+nul-may = ap (unlessDressed false) nul-domain
+
 pub letter-may : (l : Letter) → queueable (code.Letter l) ≡ answer tt
 unfolding queueable
 letter-may l = ap (unlessDressed false) (letter-domain l)
@@ -339,10 +343,10 @@ byte-by : (b : ℕ) (t : Bool) → ltb b 0x80 ≡ t → isAnswer (unlessDressed 
 byte-by b true e may = byte-back b (ltb-true b 0x80 e)
 byte-by b false e may = absurd (true≢false (sym may))
 
--- the number of a code that may wait gives that code back
-pub gives-the-code-back : (c : Code) → mayWait c ≡ true → codeOf (numberOf c) ≡ c
+-- a code that may wait has a number, which gives that code back
+pub gives-the-code-back : (c : Code) → mayWait c ≡ true → Option·map codeOf (numberOf c) ≡ some c
 gives-the-code-back code.Nul may = absurd (true≢false (sym may))
 gives-the-code-back (code.Control c) may =
-    control-back (c .field) (c .channel) (c .control) (sym (ap isAnswer (control-may c)) ∙ may)
-gives-the-code-back (code.Letter l) may = letter-back l
-gives-the-code-back (code.Unknown b) may = byte-by b (ltb b 0x80) refl (sym (ap isAnswer (unknown-may b)) ∙ may)
+    ap some (control-back (c .field) (c .channel) (c .control) (sym (ap isAnswer (control-may c)) ∙ may))
+gives-the-code-back (code.Letter l) may = ap some (letter-back l)
+gives-the-code-back (code.Unknown b) may = ap some (byte-by b (ltb b 0x80) refl (sym (ap isAnswer (unknown-may b)) ∙ may))

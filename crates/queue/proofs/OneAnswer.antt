@@ -2,7 +2,7 @@
 -- recovered from it.
 -- Assumes nothing.
 use mathlib.Core.Bool.{cond}
-use mathlib.Core.List.{List, [], _∷_}
+use mathlib.Core.Option.{Option, none, some}
 use mathlib.Core.Path.{_≡_, refl, ap, ap₂, sym, _∙_}
 use Prim.Native.Nat.{ℕ}
 use lib.Dec.{eqb}
@@ -87,9 +87,9 @@ count-injective r s e =
     (count-answer-injective (r .answer) (s .answer) (ap (λ (w : Outcome ℕ × Queue). w .0) e)) (ap beside e)
 
 -- what a push stores
-abbrev entryOf : Outcome (List ℕ) → Entry
-entryOf (answer []) = entry.Unchanged push-answer.Accepted
-entryOf (answer (n ∷ ns)) = entry.Stored n
+abbrev entryOf : Outcome (Option ℕ) → Entry
+entryOf (answer none) = entry.Unchanged push-answer.Accepted
+entryOf (answer (some n)) = entry.Stored n
 entryOf (refused k) = entry.Unchanged (pushAnswerOf (refused k))
 
 entry-found : (e : Entry) → entryOf (entryOutcome e) ≡ e

@@ -3,7 +3,7 @@
 -- Assumes nothing.
 use mathlib.Core.Bool.{Bool, true, false, cond}
 use mathlib.Core.List.{List, [], _∷_, _++_}
-use mathlib.Core.Option.{Option, none, some}
+use mathlib.Core.Option.{Option, Option·map, Option·none-ne-some, Option·some-injective, none, some}
 use mathlib.Core.Path.{_≡_, refl, ap, ap₂, sym, subst, _∙_}
 use Prim.Native.Nat.{ℕ, zero, suc, _+_, _-_, _<_}
 use native.Mathlib.Omega.{arith}
@@ -19,7 +19,7 @@ use Rattle.queue.proofs.WellFormed.{formed, stored-has-room, stored-may
 use Rattle.queue.specs.Good.{Fit, Good, seen}
 use Rattle.queue.specs.Number.{codeOf, numberOf}
 use Rattle.queue.specs.Queue.{Pop, Queued, admit, count, entered, isSingle, mayWait, pop, popCommand, popHeld, popSingle, popTwo, popWaiting, push, queued}
-use Rattle.queue.specs.Ring.{codeAtPlace, codesFrom, countRing, freshRing, gone, heldAs, heldIn, leftIn, numberAt, popRing, pushRing, stored, view, waitingIn, wellFormed}
+use Rattle.queue.specs.Ring.{codeAtPlace, codesFrom, countRing, freshRing, gone, heldAs, heldIn, leftIn, numberAt, popRing, pushRing, stored, storedAs, view, waitingIn, wellFormed}
 use Rattle.queue.specs.declared.ring.Queue.{Queue}
 
 -- the list of a well-formed ring, and back
@@ -41,10 +41,14 @@ unfolding wellFormed
 fresh-good = record { formed = refl; places = refl }
 
 -- a push
+view-by-number : (m : Option ℕ) (q : Queue) (c : Code) → length (q .places) ≡ 64 → q .waiting < 64 → Option·map codeOf m ≡ some c → view (storedAs q m) ≡ queued (waitingIn q ++ (c ∷ [])) (heldIn (q .held))
+view-by-number none q c size less back = absurd (Option·none-ne-some c back)
+view-by-number (some n) q c size less back =
+    ap (λ (l : List Code). queued l (heldIn (q .held))) (stored-behind (q .places) (q .start) (q .waiting) n size less)
+    ∙ ap (λ (x : Code). queued (waitingIn q ++ (x ∷ [])) (heldIn (q .held))) (Option·some-injective (codeOf n) c back)
+
 view-of-stored : (q : Queue) (c : Code) → length (q .places) ≡ 64 → q .waiting < 64 → mayWait c ≡ true → view (stored q c) ≡ queued (waitingIn q ++ (c ∷ [])) (heldIn (q .held))
-view-of-stored q c size less may =
-    ap (λ (l : List Code). queued l (heldIn (q .held))) (stored-behind (q .places) (q .start) (q .waiting) (numberOf c) size less)
-    ∙ ap (λ (x : Code). queued (waitingIn q ++ (x ∷ [])) (heldIn (q .held))) (gives-the-code-back c may)
+view-of-stored q c size less may = view-by-number (numberOf c) q c size less (gives-the-code-back c may)
 
 entered-refines : (o : Outcome Bool) (q : Queue) (c : Code) → admit c (q .waiting) ≡ o → length (q .places) ≡ 64 → seen (entered o (stored q c) q) ≡ entered o (queued (waitingIn q ++ (c ∷ [])) (heldIn (q .held))) (view q)
 entered-refines (answer true) q c e size =
@@ -59,13 +63,21 @@ push-refines q c g =
     ∙ entered-refines (admit c (q .waiting)) q c refl (g .places)
     ∙ ap (λ (n : ℕ). entered (admit c n) (queued (waitingIn q ++ (c ∷ [])) (heldIn (q .held))) (view q)) (sym (how-many (q .places) (q .start) (q .waiting)))
 
+stored-start : (m : Option ℕ) (q : Queue) → storedAs q m .start ≡ q .start
+stored-start none q = refl
+stored-start (some n) q = refl
+
 entered-start : (o : Outcome Bool) (q : Queue) (c : Code) → entered o (stored q c) q .1 .start ≡ q .start
-entered-start (answer true) q c = refl
+entered-start (answer true) q c = stored-start (numberOf c) q
 entered-start (answer false) q c = refl
 entered-start (refused n) q c = refl
 
+stored-places : (m : Option ℕ) (q : Queue) → length (storedAs q m .places) ≡ length (q .places)
+stored-places none q = refl
+stored-places (some n) q = length-set (q .places) _ _
+
 entered-places : (o : Outcome Bool) (q : Queue) (c : Code) → length (entered o (stored q c) q .1 .places) ≡ length (q .places)
-entered-places (answer true) q c = length-set (q .places) _ _
+entered-places (answer true) q c = stored-places (numberOf c) q
 entered-places (answer false) q c = refl
 entered-places (refused n) q c = refl
 

@@ -4,6 +4,7 @@
 -- second byte. Of a single code, bit 15 set: 7 whether it is an `Unknown`, 6 to 0 its byte.
 use Prim.Native.Nat.{ℕ, _+_, _*_, _-_, _/_, _%_}
 use mathlib.Core.Bool.{cond, _&&_}
+use mathlib.Core.Option.{Option, none, some}
 use lib.Dec.{eqb, leb}
 use Rattle.code.specs.Channel.{channelOne, channelTwo, fieldOne, fieldTwo}
 use Rattle.code.specs.Letter.{letterAt, letterPlace}
@@ -51,7 +52,7 @@ codeOf n =
       control = controlOf (n / 0x800 % 2) (firstIn n) (secondIn n);
     }))
 
--- the number of a code; NUL never waits, and has 0
+-- the number of a code; NUL never waits, and has none
 abbrev pub bytesNumber : Pair → ℕ
 bytesNumber p = p .0 % 16 * 128 + p .1 % 128
 
@@ -77,18 +78,18 @@ controlNumber (control.Tab t) = numberIn (controlBytes (control.Tab t))
 controlNumber (control.Preamble p) = numberIn (controlBytes (control.Preamble p))
 controlNumber (control.Unknown a b) = 0x800 + numberIn (controlBytes (control.Unknown a b))
 
-abbrev pub numberOf : Code → ℕ
-numberOf code.Nul = 0
-numberOf (code.Control c) = whoseNumber c + controlNumber (c .control)
-numberOf (code.Letter l) = 0x8020 + letterPlace l
-numberOf (code.Unknown b) = 0x8080 + b
+abbrev pub numberOf : Code → Option ℕ
+numberOf code.Nul = none
+numberOf (code.Control c) = some (whoseNumber c + controlNumber (c .control))
+numberOf (code.Letter l) = some (0x8020 + letterPlace l)
+numberOf (code.Unknown b) = some (0x8080 + b)
 
--- a number where the code may be queued, else the refusal
-abbrev pub withNumber : ℕ → Outcome Unit → Outcome ℕ
+-- its number where a code may be queued, else the refusal
+abbrev pub withNumber : Option ℕ → Outcome Unit → Outcome (Option ℕ)
 withNumber n (answer u) = answer n
 withNumber n (refused k) = refused k
 
-abbrev pub numbered : Code → Outcome ℕ
+abbrev pub numbered : Code → Outcome (Option ℕ)
 numbered c = withNumber (numberOf c) (queueable c)
 
 -- the same of a control, by the part of the number that its field and channel make; whether it may be queued is the same
@@ -96,8 +97,8 @@ numbered c = withNumber (numberOf c) (queueable c)
 abbrev pub plain : Control → ControlCode
 plain c = record { field = Absent; channel = channelOne; control = c }
 
-abbrev pub numberedControl : ℕ → Control → Outcome ℕ
-numberedControl whose c = withNumber (whose + controlNumber c) (queueable (code.Control (plain c)))
+abbrev pub numberedControl : ℕ → Control → Outcome (Option ℕ)
+numberedControl whose c = withNumber (some (whose + controlNumber c)) (queueable (code.Control (plain c)))
 
-abbrev pub numberedUnknown : ℕ → ℕ → ℕ → Outcome ℕ
+abbrev pub numberedUnknown : ℕ → ℕ → ℕ → Outcome (Option ℕ)
 numberedUnknown whose a b = numberedControl whose (control.Unknown a b)

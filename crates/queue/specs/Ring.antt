@@ -72,7 +72,7 @@ tested q done = cond (wellFormed q) done (refused 12, q)
 abbrev pub freshRing : Queue
 freshRing = record { places = replicate 64 0; start = 0; waiting = 0; held = held.Absent }
 
--- a number, and so a code, stored at the place after the last
+-- a number, and so a code, stored at the place after the last; a code without a number is not stored
 abbrev pub storedNumber : Queue → ℕ → Queue
 storedNumber q n = record {
   places = set (q .places) ((q .start + q .waiting) % 64) n;
@@ -81,8 +81,12 @@ storedNumber q n = record {
   held = q .held;
 }
 
+abbrev pub storedAs : Queue → Option ℕ → Queue
+storedAs q none = q
+storedAs q (some n) = storedNumber q n
+
 abbrev pub stored : Queue → Code → Queue
-stored q c = storedNumber q (numberOf c)
+stored q c = storedAs q (numberOf c)
 
 unfoldable pub pushRing : Queue → Code → Outcome Unit × Queue
 pushRing q c = tested q (entered (admit c (q .waiting)) (stored q c) q)

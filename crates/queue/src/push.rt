@@ -1,7 +1,6 @@
 // Putting a code into the queue.
 ghost use mathlib.Core.Path.{_≡_};
 ghost use Rattle.queue.specs.Entry.{entryFor, entryOutcome};
-ghost use Rattle.queue.specs.Queue.{isNul};
 ghost use Rattle.queue.specs.Ring.{pushOutcome, pushRing};
 use crate::queueable::Verdict;
 use crate::queueable::numbered;
@@ -32,18 +31,6 @@ pub enum Entry {
     Unchanged(PushAnswer),
 }
 
-// Whether a code is padding.
-pub(crate) fn is_nul(code: Code) -> bool
-    ensures { λ r. ⌜ r ≡ isNul code ⌝ }
-{
-    match code {
-        Code::Nul => true,
-        Code::Control(_) => false,
-        Code::Letter(_) => false,
-        Code::Unknown(_) => false,
-    }
-}
-
 // What becomes of a code, by the parts of the queue but its places. 12 is tested first; NUL passes even where the queue
 // is full; 2, 3 and 18 are tested before 7.
 pub fn entry_for(start: usize, waiting: usize, held: Held, code: Code) -> Entry
@@ -52,10 +39,8 @@ pub fn entry_for(start: usize, waiting: usize, held: Held, code: Code) -> Entry
     if !is_formed(start, waiting, held) {
         return Entry::Unchanged(PushAnswer::IllFormed);
     }
-    if is_nul(code) {
-        return Entry::Unchanged(PushAnswer::Accepted);
-    }
     match numbered(code) {
+        Verdict::Nul => Entry::Unchanged(PushAnswer::Accepted),
         Verdict::Passes(number) => {
             if 64 <= waiting {
                 Entry::Unchanged(PushAnswer::Full)

@@ -11,9 +11,10 @@ use code::ControlCode;
 use code::Pair;
 use code::RowBytes;
 
-// A code's number, or why it may not be queued: `UnknownByte` is refusal 2, `NoSuchRow` refusal 3, `NotACommand` refusal
-// 18.
+// A code's number, none for NUL, which is not stored, or why the code may not be queued: `UnknownByte` is refusal 2,
+// `NoSuchRow` refusal 3, `NotACommand` refusal 18.
 pub(crate) enum Verdict {
+    Nul,
     Passes(u16),
     UnknownByte,
     NoSuchRow,
@@ -77,12 +78,12 @@ fn number_control(whose: u16, control: Control) -> Verdict
     }
 }
 
-// The number of a code that may be queued. NUL may; its number is never stored.
+// The number of a code that may be queued.
 pub(crate) fn numbered(code: Code) -> Verdict
     ensures { λ r. ⌜ verdictOutcome r ≡ numbered code ⌝ }
 {
     match code {
-        Code::Nul => Verdict::Passes(0),
+        Code::Nul => Verdict::Nul,
         Code::Control(command) => {
             let control = command.control;
             number_control(whose_number(command), control)

@@ -1,6 +1,6 @@
 -- `queue::ring::Queue::push` meets its contract: the ring is left as the entry says (`pushed-by`).
 -- Assumes nothing.
-use mathlib.Core.List.{[], _∷_}
+use mathlib.Core.Option.{some}
 use mathlib.Core.Path.{_≡_, ap, sym, _∙_}
 use Prim.Native.Nat.{_<_}
 use native.Mathlib.Omega.{arith}
@@ -17,7 +17,7 @@ use Rattle.queue.proofs.ring.Queue.push.Tie as tie
 abbrev handed : tie.After-known-told → Queue
 handed c = c .before .before .before .before .args .self
 
-stored-entry : (c : tie.After-known-told) → answer (c .before .number .given .0 .0 ∷ []) ≡ entryFor (handed c .start) (handed c .waiting) (handed c .held) (c .before .before .before .before .args .code)
+stored-entry : (c : tie.After-known-told) → answer (some (c .before .number .given .0 .0)) ≡ entryFor (handed c .start) (handed c .waiting) (handed c .held) (c .before .before .before .before .args .code)
 stored-entry c = sym (ap entryOutcome (c .before .number .given .1)) ∙ c .before .before .before .entry-for .ensures
 
 has-room : (c : tie.After-known-told) → (handed c .start < 64) × (handed c .waiting < 64)

@@ -2,7 +2,7 @@
 -- Assumes nothing.
 use borrow.Author.Tests.{not-true, not-false}
 use mathlib.Core.Bool.{true}
-use mathlib.Core.List.{[], _∷_}
+use mathlib.Core.Option.{some}
 use mathlib.Core.Path.{_≡_, ap, sym, _∙_}
 use Prim.Native.Nat.{_<_}
 use native.Mathlib.Omega.{arith}
@@ -30,7 +30,7 @@ handed c = c .before .before .before .before .before .before .before .before .ar
 abbrev code : tie.After-known-told → Code
 code c = c .before .before .before .before .before .before .before .before .args .code
 
-stored-entry : (c : tie.After-known-told) → answer (c .before .number .given .0 .0 ∷ []) ≡ entryFor (handed c .queue .start) (handed c .queue .waiting) (handed c .queue .held) (code c)
+stored-entry : (c : tie.After-known-told) → answer (some (c .before .number .given .0 .0)) ≡ entryFor (handed c .queue .start) (handed c .queue .waiting) (handed c .queue .held) (code c)
 stored-entry c = sym (ap entryOutcome (c .before .number .given .1)) ∙ c .before .before .before .entry-for .ensures
 
 has-room : (c : tie.After-known-told) → (handed c .queue .start < 64) × (handed c .queue .waiting < 64)
