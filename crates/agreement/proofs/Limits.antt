@@ -12,7 +12,8 @@ use Rattle.code.specs.Channel.{channelOne, fieldOne}
 use Rattle.code.specs.Characters.{standard}
 use Rattle.code.specs.Letter.{letterAt}
 use Rattle.code.specs.Read.{readPair}
-use Rattle.code.specs.Write.{inDomain, pair, writeCode}
+use Rattle.code.specs.Pair.{pair}
+use Rattle.code.specs.Write.{inDomain, writeCode}
 use Rattle.code.specs.declared.character.Character.the-variants as character
 use Rattle.code.specs.declared.code.Code.{Code}
 use Rattle.code.specs.declared.code.Code.the-variants as code

@@ -11,8 +11,9 @@ use borrow.Author.Tests.{eq-eqb, eqb-true}
 use lib.Dec.{eqb}
 use lib.ListN.{drop, getD, length, replicate, take}
 use Rattle.code.proofs.Both.{both-true}
-use Rattle.code.specs.Read.{isOddPair, samePair}
-use Rattle.code.specs.Write.{pair}
+use Rattle.code.specs.Pair.{samePair}
+use Rattle.code.specs.Read.{isOddPair}
+use Rattle.code.specs.Pair.{pair}
 use Rattle.code.specs.declared.pair.Pair.{Pair}
 use Rattle.agreement.specs.Agreement.{Carried, Line, OneHit, hits, spoiledPlaces}
 use Rattle.agreement.specs.Agreement as line

@@ -6,7 +6,8 @@ use mathlib.Core.Option.{Option}
 use mathlib.Core.Path.{_≡_, refl, ap, ap₂, sym, _∙_}
 use Prim.Native.Nat.{ℕ}
 use Rattle.code.specs.Outcome.{Outcome, answer, refused}
-use Rattle.code.specs.Read.{isOddPair, samePair}
+use Rattle.code.specs.Pair.{samePair}
+use Rattle.code.specs.Read.{isOddPair}
 use Rattle.code.specs.declared.pair.Pair.{Pair}
 use Rattle.event.specs.declared.event.Cea608.{Cea608}
 use Rattle.receiver.proofs.Step.{even-is-refused-1, odd-is-not-refused}

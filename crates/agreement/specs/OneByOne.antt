@@ -5,7 +5,8 @@ use mathlib.Core.List.{List, [], _∷_}
 use mathlib.Core.Option.{Option, none, some}
 use mathlib.Core.Path.{_≡_}
 use Rattle.code.specs.declared.pair.Pair.{Pair}
-use Rattle.code.specs.Read.{isCommandPair, isOddPair, samePair}
+use Rattle.code.specs.Pair.{samePair}
+use Rattle.code.specs.Read.{isCommandPair, isOddPair}
 
 abbrev pub AllOdd : List Pair → Type 0
 AllOdd [] = Unit

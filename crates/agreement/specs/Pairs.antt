@@ -1,5 +1,5 @@
 -- Pairs that the laws and their cases name, in the port's own words.
-use Rattle.code.specs.Write.{pair}
+use Rattle.code.specs.Pair.{pair}
 use Rattle.code.specs.declared.pair.Pair.{Pair}
 
 abbrev pub padding : Pair

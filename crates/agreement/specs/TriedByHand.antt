@@ -10,7 +10,7 @@ use Rattle.code.specs.MidRow.{italic}
 use Rattle.code.specs.Letter.{letterAt}
 use Rattle.code.specs.Outcome.{Outcome, answer}
 use Rattle.code.specs.Read.{readPair}
-use Rattle.code.specs.Write.{pair}
+use Rattle.code.specs.Pair.{pair}
 use Rattle.code.specs.declared.code.Code.{Code}
 use Rattle.code.specs.declared.code.Code.the-variants as code
 use Rattle.code.specs.declared.color.Color.the-variants.{White}

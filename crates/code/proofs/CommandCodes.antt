@@ -3,24 +3,24 @@
 -- Assumes nothing.
 use mathlib.Core.Bool.{Bool, true, false, cond, _&&_}
 use mathlib.Core.Path.{_≡_, refl, ap, sym, subst, _∙_}
-use Prim.Native.Nat.{ℕ, _+_, _*_, _<_}
+use Prim.Native.Nat.{ℕ, _+_, _<_}
 use native.Mathlib.Omega.{arith}
 use borrow.Author.Tests.{eqb-true, leb-true, ltb-true}
 use lib.Dec.{eqb, leb, lit<, ltb}
 use Rattle.code.proofs.Agree.{agree}
 use Rattle.code.proofs.Both.{both-left, both-right}
-use Rattle.code.proofs.Bytes.{preamble-plus, symbol-plus}
-use Rattle.code.proofs.Numbers.{column-back, letter-small, style-back}
+use Rattle.code.proofs.Numbers.{letter-small}
 use Rattle.code.proofs.Written.{data-kept}
-use Rattle.code.specs.Column.{columnNumber}
 use Rattle.code.specs.Control.{commandNumber, tabNumber}
 use Rattle.code.specs.Letter.{letterPlace}
 use Rattle.code.specs.Outcome.{Outcome, answer, refused}
+use Rattle.code.specs.Pair.{pair}
 use Rattle.code.specs.Parity.{stripped, withParity}
-use Rattle.code.specs.Preamble.{styleOf}
-use Rattle.code.specs.Read.{isCommand, within}
-use Rattle.code.specs.Tables.{prefixAt}
-use Rattle.code.specs.Write.{asCommand, asSingle, bit, controlBytes, isCommandCode, isCommandControl, isFieldTwo, midRowBytes, onLine, pair, preambleBytes, symbolBase, symbolBytes, withBit8, withChannel, withField, writeCode}
+use Rattle.code.specs.Read.{isCommand}
+use Rattle.code.specs.Preamble.{rowPrefix}
+use Rattle.code.specs.Range.{within}
+use Rattle.code.specs.Symbol.{symbolBase}
+use Rattle.code.specs.Write.{asCommand, asSingle, controlBytes, isCommandCode, isCommandControl, isFieldTwo, midRowBytes, onLine, preambleBytes, symbolBytes, withBit8, withChannel, withField, writeCode}
 use Rattle.code.specs.declared.channel.Channel.{Channel}
 use Rattle.code.specs.declared.code.Code.{Code}
 use Rattle.code.specs.declared.code.Code.the-variants as code
@@ -67,22 +67,13 @@ row-says Portuguese = refl
 row-says German = refl
 
 symbol-says : (s : Symbol) → isCommand (symbolBytes s .0) ≡ true
-symbol-says s =
-    ap (λ (p : Pair). isCommand (p .0)) (sym (symbol-plus (s .row) (columnNumber (s .column)) (column-back (s .column) .0)))
-    ∙ row-says (s .row)
+symbol-says s = row-says (s .row)
 
-prefix-says : (row : ℕ) → row < 15 → isCommand (prefixAt row .0) ≡ true
-prefix-says row less = agree (λ (x : ℕ). isCommand (prefixAt x .0)) (λ (x : ℕ). true) 15 refl row less
-
-bit-small : (t : Bool) → bit t < 2
-bit-small true = lit< tt
-bit-small false = lit< tt
+prefix-says : (row : ℕ) → row < 15 → isCommand (rowPrefix row .0) ≡ true
+prefix-says row less = agree (λ (x : ℕ). isCommand (rowPrefix x .0)) (λ (x : ℕ). true) 15 refl row less
 
 preamble-says : (p : PreambleAddressCode) → p .row < 15 → isCommand (preambleBytes p .0) ≡ true
-preamble-says p less =
-    let n = 2 * styleOf (p .ty) + bit (p .underline) in
-    ap (λ (q : Pair). isCommand (q .0)) (sym (preamble-plus (p .row) n (omega (arith, style-back (p .ty) .0, bit-small (p .underline)))))
-    ∙ prefix-says (p .row) less
+preamble-says p less = prefix-says (p .row) less
 
 -- a first byte of 10 to 1F is still one when sent
 command-small : (a : ℕ) → isCommand a ≡ true → a < 128

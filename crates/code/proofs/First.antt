@@ -8,9 +8,8 @@ use Prim.Native.Nat.{ℕ, zero, suc, _<_}
 use native.Mathlib.Nat.{le-of-suc-le-suc, not-suc-le-zero, zero-lt-suc, suc-le-suc-iff}
 use native.Mathlib.Omega.{arith}
 use borrow.Author.Tests.{eq-eqb, ne-eqb}
-use lib.Dec.{eqb}
 use lib.ListN.{length, getD}
-use Rattle.code.specs.Position.{position, later}
+use Rattle.code.specs.Position.{firstPlace, later, position}
 use Rattle.code.specs.Tables.{foundAt}
 use Rattle.code.specs.declared.tables.Found.the-variants.{At, Absent}
 
@@ -37,10 +36,23 @@ inside-test : (t : Bool) (n i : ℕ) (o : Option ℕ) → ((j : ℕ) → o ≡ s
 inside-test true n i o inside e = rw (← Option·some-injective 0 i e) (zero-lt-suc n)
 inside-test false n i o inside e = inside-later n i o inside e
 
--- a place is within the list
-pub first-inside : (x : ℕ) (l : List ℕ) (i : ℕ) → position x l ≡ some i → i < length l
-first-inside x [] i e = absurd (Option·none-ne-some i e)
-first-inside x (y ∷ ys) i e = inside-test (eqb x y) (length ys) i (position x ys) (λ j p. first-inside x ys j p) e
+-- a place is within the list, and what stands there passes the test
+pub first-inside : {A : Type 0} (test : A → Bool) (l : List A) (i : ℕ) → firstPlace test l ≡ some i → i < length l
+first-inside test [] i e = absurd (Option·none-ne-some i e)
+first-inside test (y ∷ ys) i e = inside-test (test y) (length ys) i (firstPlace test ys) (λ j p. first-inside test ys j p) e
+
+later-passes : {A : Type 0} (test : A → Bool) (y : A) (ys : List A) (d : A) (i : ℕ) (o : Option ℕ) → ((j : ℕ) → o ≡ some j → test (getD ys j d) ≡ true) → later o ≡ some i → test (getD (y ∷ ys) i d) ≡ true
+later-passes test y ys d i none passes e = absurd (Option·none-ne-some i e)
+later-passes test y ys d i (some j) passes e = rw (← Option·some-injective (suc j) i e) (passes j refl)
+
+passes-by : {A : Type 0} (test : A → Bool) (y : A) (ys : List A) (d : A) (i : ℕ) (t : Bool) → test y ≡ t → ((j : ℕ) → firstPlace test ys ≡ some j → test (getD ys j d) ≡ true) → cond t (some 0) (later (firstPlace test ys)) ≡ some i → test (getD (y ∷ ys) i d) ≡ true
+passes-by test y ys d i true is passes e = rw (← Option·some-injective 0 i e) is
+passes-by test y ys d i false is passes e = later-passes test y ys d i (firstPlace test ys) passes e
+
+pub first-passes : {A : Type 0} (test : A → Bool) (l : List A) (d : A) (i : ℕ) → firstPlace test l ≡ some i → test (getD l i d) ≡ true
+first-passes test [] d i e = absurd (Option·none-ne-some i e)
+first-passes test (y ∷ ys) d i e =
+    passes-by test y ys d i (test y) refl (λ j p. first-passes test ys d j p) e
 
 -- what a search reports determines the place
 pub found-some : (o : Option ℕ) (i : ℕ) → foundAt o ≡ At i → o ≡ some i

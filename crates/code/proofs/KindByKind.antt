@@ -6,8 +6,7 @@ use borrow.Author.Tests.{lt-ltb}
 use lib.Dec.{ltb}
 use Rattle.code.specs.Letter.{letterPlace}
 use Rattle.code.specs.Outcome.{answer}
-use Rattle.code.specs.Write.{asCommand, asSingle, controlBytes, controlInDomain, inDomain, onLine, unless, writeCode}
-use Rattle.code.specs.declared.code.Code.{Code}
+use Rattle.code.specs.Write.{asCommand, asSingle, controlBytes, controlInDomain, inDomain, ofSevenBits, onLine, writeCode}
 use Rattle.code.specs.declared.code.Code.the-variants as code
 use Rattle.code.specs.declared.control.ControlCode.{ControlCode}
 use Rattle.code.specs.declared.letter.Letter.{Letter}
@@ -33,7 +32,7 @@ pub letter-domain : (l : Letter) → inDomain (code.Letter l) ≡ answer tt
 unfolding inDomain
 letter-domain l = refl
 
-pub unknown-domain : (b : ℕ) → inDomain (code.Unknown b) ≡ unless (ltb b 0x80) 2
+pub unknown-domain : (b : ℕ) → inDomain (code.Unknown b) ≡ ofSevenBits (ltb b 0x80) tt
 unfolding inDomain
 unknown-domain b = refl
 

@@ -1,5 +1,6 @@
 pub mod Agree
 pub mod Both
+pub mod BothWays
 pub mod Bytes
 pub mod CommandCodes
 pub mod First
@@ -13,6 +14,7 @@ pub mod Meaning
 pub mod MeantBack
 pub mod Numbers
 pub mod OneAnswer
+pub mod Ranges
 pub mod RoundTrip
 pub mod TableRules
 pub mod Written

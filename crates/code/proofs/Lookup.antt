@@ -1,80 +1,94 @@
--- From a character to its code: what a search over each table says of the definition.
+-- From a character to its code: what a search over each table says of the definition. No entry has the code point 0, by
+-- which an entry without a character is kept, so that 0 is not searched for.
 -- Assumes nothing.
-use mathlib.Core.Bool.{Bool, true, false, cond, true≢false}
 use mathlib.Core.List.{List, [], _∷_, _++_, map}
 use mathlib.Core.Option.{Option, none, some, Option·none-ne-some, Option·some-injective}
 use mathlib.Core.Path.{_≡_, refl, ap, sym, _∙_}
-use Prim.Native.Nat.{ℕ, zero, suc, _-_}
+use Prim.Native.Nat.{ℕ, zero, suc, _-_, _<_}
 use native.Mathlib.Omega.{arith}
-use borrow.Author.Tests.{lt-ltb, ne-eqb}
-use lib.Dec.{eqb, eqb·suc-zero}
+use borrow.Author.Tests.{ne-eqb}
+use lib.Dec.{eqb}
 use lib.ListN.{replicate}
 use Rattle.code.proofs.First.{first-inside}
-use Rattle.code.specs.Characters.{standard, symbols}
-use Rattle.code.specs.Code.{fromChar, letterCode, symbolCode}
-use Rattle.code.specs.Outcome.{Outcome, answer, refused}
-use Rattle.code.specs.Position.{position, later}
-use Rattle.code.specs.Tables.{codeAt, codeEntries, controlAt, controlEntries, pointOf}
+use Rattle.code.specs.Characters.{isPoint, placeOf, standard, symbols}
+use Rattle.code.specs.Code.{fromChar, symbolCode}
+use Rattle.code.specs.Letter.{letterAt}
+use Rattle.code.specs.Outcome.{answer, refused}
+use Rattle.code.specs.Position.{later, position}
+use Rattle.code.specs.Symbol.{symbolAt}
+use Rattle.code.specs.Tables.{codeEntries, controlEntries, orZero, pointOf}
 use Rattle.code.specs.declared.channel.Channel.{Channel}
-use Rattle.code.specs.declared.code.Code.{Code}
 use Rattle.code.specs.declared.code.Code.the-variants as code
 use Rattle.code.specs.declared.control.CodeField.the-variants.{Absent}
-use Rattle.code.specs.declared.control.Control.{Control}
+use Rattle.code.specs.declared.control.Control.the-variants as control
+
+-- a character's place among the code points is its place among the characters
+same-test : (c : ℕ) (o : Option ℕ) → (c ≡ 0 → ⊥) → eqb c (orZero o) ≡ isPoint c o
+same-test c none h = ne-eqb c 0 h
+same-test c (some d) h = refl
+
+point-place : (c : ℕ) (l : List (Option ℕ)) → (c ≡ 0 → ⊥) → position c (map orZero l) ≡ placeOf c l
+point-place c [] h = refl
+point-place c (o ∷ l) h = rw (same-test c o h, point-place c l h) refl
 
 -- a character is found among the symbols alone, since the commands and tabs after them have none
-none-in-zeros : (c n : ℕ) → (c ≡ 0 → ⊥) → position c (replicate n 0) ≡ none
-none-in-zeros c zero h = refl
-none-in-zeros c (suc n) h = rw (ne-eqb c 0 h) (ap later (none-in-zeros c n h))
+none-in-empty : (c n : ℕ) → placeOf c (replicate n none) ≡ none
+none-in-empty c zero = refl
+none-in-empty c (suc n) = ap later (none-in-empty c n)
 
-before-zeros : (c n : ℕ) (l : List ℕ) → (c ≡ 0 → ⊥) → position c (l ++ replicate n 0) ≡ position c l
-before-zeros c n [] h = none-in-zeros c n h
-before-zeros c n (y ∷ ys) h = simp (before-zeros c n ys h)
+before-empty : (c n : ℕ) (l : List (Option ℕ)) → placeOf c (l ++ replicate n none) ≡ placeOf c l
+before-empty c n [] = none-in-empty c n
+before-empty c n (y ∷ ys) = simp (before-empty c n ys)
 
-symbol-place : (c : ℕ) → (c ≡ 0 → ⊥) → position c (map pointOf controlEntries) ≡ position c symbols
+symbol-place : (c : ℕ) → (c ≡ 0 → ⊥) → position c (map pointOf controlEntries) ≡ placeOf c symbols
 unfolding controlEntries symbols
-symbol-place c h = before-zeros c 19 symbols h
+symbol-place c h = point-place c (symbols ++ replicate 19 none) h ∙ before-empty c 19 symbols
 
 -- a standard character's entry is one after its place, since NUL comes first
-letter-entry : (c : ℕ) → (c ≡ 0 → ⊥) → position c (map pointOf codeEntries) ≡ later (position c standard)
+letter-entry : (c : ℕ) → (c ≡ 0 → ⊥) → position c (map pointOf codeEntries) ≡ later (placeOf c standard)
 unfolding codeEntries standard
-letter-entry c h = rw (ne-eqb c 0 h)
+letter-entry c h = rw (ne-eqb c 0 h) (ap later (point-place c standard h))
 
-abbrev fieldless : Channel → Control → Code
-fieldless ch x = code.Control (record { field = Absent; channel = ch; control = x })
+-- 0 is no character
+pub zero-has-no-code : (ch : Channel) → refused 5 ≡ fromChar 0 ch
+unfolding fromChar standard symbols
+zero-has-no-code ch = refl
 
-otherwise : {A : Type 0} (t : Bool) (x y : A) → t ≡ false → y ≡ cond t x y
-otherwise true x y e = absurd (true≢false e)
-otherwise false x y e = refl
-
-module _ (c : ℕ) (ch : Channel) where
-  pub found-symbol : (i : ℕ) (x : Control) → (c ≡ 0 → ⊥) → position c (map pointOf controlEntries) ≡ some i → x ≡ controlAt i → answer (fieldless ch x) ≡ symbolCode ch (position c symbols)
+module _ (c : ℕ) (ch : Channel) (some-character : c ≡ 0 → ⊥) where
+  pub symbol-inside : (i : ℕ) → position c (map pointOf controlEntries) ≡ some i → i < 80
   unfolding symbols
-  found-symbol i x h found at =
-      let place : position c symbols ≡ some i = sym (symbol-place c h) ∙ found in
-      rw (place, at, lt-ltb i 80 (first-inside c symbols i place))
+  symbol-inside i found = first-inside (isPoint c) symbols i (sym (symbol-place c some-character) ∙ found)
 
-  pub found-no-symbol : (c ≡ 0 → ⊥) → position c (map pointOf controlEntries) ≡ none → refused 5 ≡ symbolCode ch (position c symbols)
-  found-no-symbol h found = let place : position c symbols ≡ none = sym (symbol-place c h) ∙ found in rw place
+  pub found-symbol : (i : ℕ) → position c (map pointOf controlEntries) ≡ some i → answer (code.Control (record { field = Absent; channel = ch; control = control.Symbol (symbolAt i) })) ≡ symbolCode ch (placeOf c symbols)
+  found-symbol i found = let place : placeOf c symbols ≡ some i = sym (symbol-place c some-character) ∙ found in rw place
+
+  pub found-no-symbol : position c (map pointOf controlEntries) ≡ none → refused 5 ≡ symbolCode ch (placeOf c symbols)
+  found-no-symbol found = let place : placeOf c symbols ≡ none = sym (symbol-place c some-character) ∙ found in rw place
 
   -- the entry after NUL
-  entry-behind : (o : Option ℕ) (i : ℕ) → later o ≡ some i → (other : Outcome Code) → answer (codeAt i) ≡ letterCode o other
-  entry-behind none i e other = absurd (Option·none-ne-some i e)
-  entry-behind (some j) i e other =
-      let back : suc j - 1 ≡ j = omega arith in
-      rw (← Option·some-injective (suc j) i e) (rw (eqb·suc-zero j, back))
+  entry-after : (o : Option ℕ) (i : ℕ) → later o ≡ some i → (0 < i) × (o ≡ some (i - 1))
+  entry-after none i e = absurd (Option·none-ne-some i e)
+  entry-after (some j) i e =
+      let one-more : suc j ≡ i = Option·some-injective (suc j) i e in
+      (omega (arith, one-more), ap some (omega (arith, one-more)))
 
-  no-entry : (o : Option ℕ) → later o ≡ none → (other : Outcome Code) → other ≡ letterCode o other
-  no-entry none e other = refl
-  no-entry (some j) e other = absurd (Option·none-ne-some (suc j) (sym e))
+  letter-found : (i : ℕ) → position c (map pointOf codeEntries) ≡ some i → (0 < i) × (placeOf c standard ≡ some (i - 1))
+  letter-found i found = entry-after (placeOf c standard) i (sym (letter-entry c some-character) ∙ found)
 
-  pub found-letter : (i : ℕ) → (c ≡ 0 → ⊥) → position c (map pointOf codeEntries) ≡ some i → answer (codeAt i) ≡ fromChar c ch
+  pub letter-inside : (i : ℕ) → position c (map pointOf codeEntries) ≡ some i → (0 < i) × (i - 1 < 96)
+  unfolding standard
+  letter-inside i found =
+      let known = letter-found i found in
+      (known .0, first-inside (isPoint c) standard (i - 1) (known .1))
+
+  pub found-letter : (i : ℕ) → position c (map pointOf codeEntries) ≡ some i → answer (code.Letter (letterAt (i - 1))) ≡ fromChar c ch
   unfolding fromChar
-  found-letter i h found =
-      entry-behind (position c standard) i (sym (letter-entry c h) ∙ found) (symbolCode ch (position c symbols))
-      ∙ otherwise (eqb c 0) (refused 5) (letterCode (position c standard) (symbolCode ch (position c symbols))) (ne-eqb c 0 h)
+  found-letter i found = rw (letter-found i found .1) refl
 
-  pub found-no-letter : (c ≡ 0 → ⊥) → position c (map pointOf codeEntries) ≡ none → symbolCode ch (position c symbols) ≡ fromChar c ch
+  not-found : (o : Option ℕ) → later o ≡ none → o ≡ none
+  not-found none e = refl
+  not-found (some j) e = absurd (Option·none-ne-some (suc j) (sym e))
+
+  pub found-no-letter : position c (map pointOf codeEntries) ≡ none → symbolCode ch (placeOf c symbols) ≡ fromChar c ch
   unfolding fromChar
-  found-no-letter h found =
-      no-entry (position c standard) (sym (letter-entry c h) ∙ found) (symbolCode ch (position c symbols))
-      ∙ otherwise (eqb c 0) (refused 5) (letterCode (position c standard) (symbolCode ch (position c symbols))) (ne-eqb c 0 h)
+  found-no-letter found = rw (not-found (placeOf c standard) (sym (letter-entry c some-character) ∙ found)) refl

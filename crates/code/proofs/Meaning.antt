@@ -3,16 +3,17 @@
 -- Assumes nothing.
 use mathlib.Core.Bool.{Bool, true, false, cond, _&&_}
 use mathlib.Core.Option.{Option, none, some}
-use mathlib.Core.Path.{_≡_, refl}
+use mathlib.Core.Path.{_≡_, refl, ap, sym, _∙_}
 use Prim.Native.Nat.{ℕ, _+_, _/_, _%_, _≤_, _<_}
-use borrow.Author.Tests.{lt-leb, ltb-true}
+use borrow.Author.Tests.{le-leb, lt-leb, ltb-true}
 use lib.Dec.{eqb, leb, ltb, lit<, lit≤}
 use native.Mathlib.Omega.{arith}
 use Rattle.code.proofs.Agree.{agree, agree-from, agree-grid}
 use Rattle.code.specs.Control.{commandAt}
 use Rattle.code.specs.MidRow.{midRowAt}
 use Rattle.code.specs.Preamble.{styleAt}
-use Rattle.code.specs.Read.{channelOf, commandOf, fieldOf, isCommand, meaning, orUnknown, symbolIn, underlined, within, withoutChannel, withoutField}
+use Rattle.code.specs.Range.{within}
+use Rattle.code.specs.Read.{channelOf, commandOf, fieldOf, isCommand, meaning, orUnknown, symbolIn, underlined, withoutChannel, withoutField}
 use Rattle.code.specs.Tables.{firstRowAt, meaningOf, tabIn}
 use Rattle.code.specs.declared.channel.Channel.{Channel}
 use Rattle.code.specs.declared.control.CodeField.{CodeField}
@@ -23,11 +24,11 @@ use Rattle.code.specs.declared.read.Meaning.{Meaning}
 use Rattle.code.specs.declared.read.Meaning.the-variants as meant
 use Rattle.code.specs.declared.symbol.SymbolRow.the-variants.{Special, Spanish, French, Portuguese, German}
 
-abbrev pub inRow : ℕ → ℕ → Option Control
-inRow b row = some (control.Preamble (record { row = row; underline = underlined b; ty = styleAt (b % 32 / 2) }))
+abbrev pub preambleOf : ℕ → ℕ → Option Control
+preambleOf b row = some (control.Preamble (record { row = row; underline = underlined b; ty = styleAt (b % 32 / 2) }))
 
 abbrev pub decidedRow : ℕ → ℕ → Option Control
-decidedRow p b = cond (ltb b 0x60) (inRow b (firstRowAt (p % 8))) (cond (eqb p 0x10) none (inRow b (firstRowAt (p % 8) + 1)))
+decidedRow p b = cond (ltb b 0x60) (preambleOf b (firstRowAt (p % 8))) (cond (eqb p 0x10) none (preambleOf b (firstRowAt (p % 8) + 1)))
 
 -- by the first byte, then by the upper digit of the second
 abbrev pub decidedOther : ℕ → ℕ → Option Control
@@ -50,6 +51,13 @@ decided-is p b from below less = agree-grid decided meaning 16 8 128 refl p b fr
 -- below 40 there is no preamble
 pub other-told : (p b : ℕ) (r : Meaning) → 16 ≤ p → p < 24 → b < 64 → r ≡ meaningOf (decidedOther p b) → r ≡ meaningOf (meaning p b)
 other-told p b r from below less found = simp (← decided-is p b from below (omega arith), lt-leb _ _ less, found)
+
+-- from 40 on there is nothing else
+pub row-told : (p b : ℕ) (r : Meaning) → 16 ≤ p → p < 24 → 64 ≤ b → b < 128 → r ≡ meaningOf (decidedRow p b) → r ≡ meaningOf (meaning p b)
+row-told p b r from below up less found =
+    found
+    ∙ sym (ap (λ (t : Bool). meaningOf (cond t (decidedRow p b) (decidedOther p b))) (le-leb 0x40 b up))
+    ∙ ap meaningOf (decided-is p b from below less)
 
 -- 10 to 1F, by the upper digit
 pub in-row-one : (a : ℕ) → a < 128 → eqb (a / 16) 1 ≡ isCommand a

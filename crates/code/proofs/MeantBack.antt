@@ -3,20 +3,20 @@
 -- Assumes nothing.
 use mathlib.Core.Bool.{Bool, true, false, _&&_}
 use mathlib.Core.Option.{Option, some}
-use mathlib.Core.Path.{_≡_, refl, ap, ap₂, _∙_}
+use mathlib.Core.Path.{_≡_, refl, ap, _∙_}
 use Prim.Native.Nat.{ℕ, _+_, _*_, _<_, zero-le}
 use lib.Dec.{ltb}
-use lib.ListN.{getD}
 use Rattle.code.proofs.Agree.{agree, agree-grid}
 use Rattle.code.proofs.Numbers.{column-back, command-back, kind-small, style-back, symbol-row-back}
 use Rattle.code.specs.Color.{colorNumber}
 use Rattle.code.specs.Column.{columnAt, columnNumber}
 use Rattle.code.specs.Control.{commandAt, commandNumber, tabNumber}
 use Rattle.code.specs.MidRow.{kindNumber, midRowAt, midRowNumber}
-use Rattle.code.specs.Preamble.{styleAt, styleOf}
-use Rattle.code.specs.Read.{isCommand, meaning, rowPrefixes}
-use Rattle.code.specs.Symbol.{symbolRowAt, symbolRowNumber}
-use Rattle.code.specs.Write.{bit, midRowBytes, pair, preambleBytes, symbolBases, symbolBytes, twoBytes}
+use Rattle.code.specs.Pair.{pair, plus}
+use Rattle.code.specs.Preamble.{rowPrefix, styleAt, styleOf}
+use Rattle.code.specs.Read.{isCommand, meaning}
+use Rattle.code.specs.Symbol.{symbolBase, symbolRowAt, symbolRowNumber}
+use Rattle.code.specs.Write.{bit, midRowBytes, preambleBytes, symbolBytes}
 use Rattle.code.specs.declared.color.Color as color
 use Rattle.code.specs.declared.color.Color.the-variants.{White, Green, Blue, Cyan, Red, Yellow, Magenta}
 use Rattle.code.specs.declared.column.Column.{Column}
@@ -75,28 +75,31 @@ pub mid-row-pair : (m : MidRow) → isPairOfControl (midRowBytes m) ≡ true
 mid-row-pair m = mid-row-fits (midRowNumber m) (m .underline) (kind-small (m .color))
 
 -- symbols
-symbol-at : (r c : ℕ) → r < 5 → c < 16 → meant (twoBytes (getD symbolBases r 0 + c)) ≡ some (control.Symbol (record { row = symbolRowAt r; column = columnAt c }))
+symbol-at : (r c : ℕ) → r < 5 → c < 16 → meant (plus (symbolBase (symbolRowAt r)) c) ≡ some (control.Symbol (record { row = symbolRowAt r; column = columnAt c }))
 symbol-at r c inside less =
-    agree-grid (λ (x y : ℕ). meant (twoBytes (getD symbolBases x 0 + y))) (λ (x y : ℕ). some (control.Symbol (record { row = symbolRowAt x; column = columnAt y }))) 0 5 16 refl
+    agree-grid (λ (x y : ℕ). meant (plus (symbolBase (symbolRowAt x)) y)) (λ (x y : ℕ). some (control.Symbol (record { row = symbolRowAt x; column = columnAt y }))) 0 5 16 refl
     r
     c
     zero-le
     inside
     less
 
+symbol-again : (r : SymbolRow) (c : Column) → meant (plus (symbolBase r) (columnNumber c)) ≡ some (control.Symbol (record { row = r; column = c }))
+symbol-again r c =
+    let known = symbol-at (symbolRowNumber r) (columnNumber c) (symbol-row-back r .0) (column-back c .0) in
+    rw (symbol-row-back r .1, column-back c .1) at known
+
 pub symbol-meant : (s : Symbol) → meant (symbolBytes s) ≡ some (control.Symbol s)
-symbol-meant s =
-    symbol-at (symbolRowNumber (s .row)) (columnNumber (s .column)) (symbol-row-back (s .row) .0) (column-back (s .column) .0)
-    ∙ ap₂ {C = Option Control} (λ (r : SymbolRow) (c : Column). some (control.Symbol (record { row = r; column = c }))) (symbol-row-back (s .row) .1) (column-back (s .column) .1)
+symbol-meant s = symbol-again (s .row) (s .column)
+
+symbol-fits : (r c : ℕ) → r < 5 → c < 16 → isPairOfControl (plus (symbolBase (symbolRowAt r)) c) ≡ true
+symbol-fits r c inside less =
+    agree-grid (λ (x y : ℕ). isPairOfControl (plus (symbolBase (symbolRowAt x)) y)) (λ (x y : ℕ). true) 0 5 16 refl r c zero-le inside less
 
 pub symbol-pair : (s : Symbol) → isPairOfControl (symbolBytes s) ≡ true
 symbol-pair s =
-    agree-grid (λ (x y : ℕ). isPairOfControl (twoBytes (getD symbolBases x 0 + y))) (λ (x y : ℕ). true) 0 5 16 refl
-    (symbolRowNumber (s .row))
-    (columnNumber (s .column))
-    zero-le
-    (symbol-row-back (s .row) .0)
-    (column-back (s .column) .0)
+    let known = symbol-fits (symbolRowNumber (s .row)) (columnNumber (s .column)) (symbol-row-back (s .row) .0) (column-back (s .column) .0) in
+    rw (symbol-row-back (s .row) .1) at known
 
 -- commands and tabs
 pub command-meant : (c : Command) → meaning 0x14 (0x20 + commandNumber c) ≡ some (control.Command c)
@@ -118,25 +121,25 @@ tab-meant tab.TabOffset2 = refl
 tab-meant tab.TabOffset3 = refl
 
 -- preambles
-abbrev inRow : ℕ → ℕ → Bool → Control
-inRow row style u = control.Preamble (record { row = row; underline = u; ty = styleAt style })
+abbrev preambleIn : ℕ → ℕ → Bool → Control
+preambleIn row style u = control.Preamble (record { row = row; underline = u; ty = styleAt style })
 
-preamble-at : (row n : ℕ) (u : Bool) → row < 15 → n < 16 → meant (twoBytes (getD rowPrefixes row 0 + (2 * n + bit u))) ≡ some (inRow row n u)
+preamble-at : (row n : ℕ) (u : Bool) → row < 15 → n < 16 → meant (plus (rowPrefix row) (2 * n + bit u)) ≡ some (preambleIn row n u)
 preamble-at row n true inside less =
-    agree-grid (λ (x y : ℕ). meant (twoBytes (getD rowPrefixes x 0 + (2 * y + 1)))) (λ (x y : ℕ). some (inRow x y true)) 0 15 16 refl row n zero-le inside less
+    agree-grid (λ (x y : ℕ). meant (plus (rowPrefix x) (2 * y + 1))) (λ (x y : ℕ). some (preambleIn x y true)) 0 15 16 refl row n zero-le inside less
 preamble-at row n false inside less =
-    agree-grid (λ (x y : ℕ). meant (twoBytes (getD rowPrefixes x 0 + (2 * y + 0)))) (λ (x y : ℕ). some (inRow x y false)) 0 15 16 refl row n zero-le inside less
+    agree-grid (λ (x y : ℕ). meant (plus (rowPrefix x) (2 * y + 0))) (λ (x y : ℕ). some (preambleIn x y false)) 0 15 16 refl row n zero-le inside less
 
 pub preamble-meant : (p : PreambleAddressCode) → p .row < 15 → meant (preambleBytes p) ≡ some (control.Preamble p)
 preamble-meant p inside =
     preamble-at (p .row) (styleOf (p .ty)) (p .underline) inside (style-back (p .ty) .0)
     ∙ ap {B = Option Control} (λ (t : PreambleType). some (control.Preamble (record { row = p .row; underline = p .underline; ty = t }))) (style-back (p .ty) .1)
 
-preamble-fits : (row n : ℕ) (u : Bool) → row < 15 → n < 16 → isPairOfControl (twoBytes (getD rowPrefixes row 0 + (2 * n + bit u))) ≡ true
+preamble-fits : (row n : ℕ) (u : Bool) → row < 15 → n < 16 → isPairOfControl (plus (rowPrefix row) (2 * n + bit u)) ≡ true
 preamble-fits row n true inside less =
-    agree-grid (λ (x y : ℕ). isPairOfControl (twoBytes (getD rowPrefixes x 0 + (2 * y + 1)))) (λ (x y : ℕ). true) 0 15 16 refl row n zero-le inside less
+    agree-grid (λ (x y : ℕ). isPairOfControl (plus (rowPrefix x) (2 * y + 1))) (λ (x y : ℕ). true) 0 15 16 refl row n zero-le inside less
 preamble-fits row n false inside less =
-    agree-grid (λ (x y : ℕ). isPairOfControl (twoBytes (getD rowPrefixes x 0 + (2 * y + 0)))) (λ (x y : ℕ). true) 0 15 16 refl row n zero-le inside less
+    agree-grid (λ (x y : ℕ). isPairOfControl (plus (rowPrefix x) (2 * y + 0))) (λ (x y : ℕ). true) 0 15 16 refl row n zero-le inside less
 
 pub preamble-pair : (p : PreambleAddressCode) → p .row < 15 → isPairOfControl (preambleBytes p) ≡ true
 preamble-pair p inside = preamble-fits (p .row) (styleOf (p .ty)) (p .underline) inside (style-back (p .ty) .0)

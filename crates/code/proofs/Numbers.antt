@@ -1,20 +1,21 @@
 -- The numbers of the small enums: each is below the count of cases, and the case at a case's number is that case.
 -- Assumes nothing.
-use mathlib.Core.Path.{_≡_, refl}
+use mathlib.Core.Path.{_≡_, refl, ap, ap₂, _∙_}
 use mathlib.Core.Bool.{cond}
 use mathlib.Core.Option.{none, some}
-use Prim.Native.Nat.{ℕ, _*_, _-_, _<_}
+use Prim.Native.Nat.{ℕ, _*_, _-_, _/_, _%_, _<_}
 use native.Mathlib.Nat.{lt-trans}
 use native.Mathlib.Omega.{arith}
 use borrow.Author.Tests.{lt-leb, lt-ltb, ne-eqb}
 use lib.Dec.{eqb, leb, lit<, ltb}
+use Rattle.code.proofs.Agree.{agree}
 use Rattle.code.specs.Color.{colorAt, colorNumber}
 use Rattle.code.specs.Column.{columnAt, columnNumber}
 use Rattle.code.specs.Control.{commandAt, commandNumber, tabAt, tabNumber}
-use Rattle.code.specs.Letter.{letterPlace, letterRowAt, letterRowNumber}
+use Rattle.code.specs.Letter.{letterAt, letterPlace, letterRowAt, letterRowNumber}
 use Rattle.code.specs.MidRow.{kindNumber}
 use Rattle.code.specs.Preamble.{colorOfStyle, indentIn, isItalics, styleAt, styleOf}
-use Rattle.code.specs.Symbol.{symbolPlace, symbolRowAt, symbolRowNumber}
+use Rattle.code.specs.Symbol.{symbolAt, symbolPlace, symbolRowAt, symbolRowNumber}
 use Rattle.code.specs.declared.color.Color as color
 use Rattle.code.specs.declared.color.Color.the-variants.{White, Green, Blue, Cyan, Red, Yellow, Magenta}
 use Rattle.code.specs.declared.column.Column.{Column}
@@ -139,6 +140,27 @@ letter-small l = omega (arith, letter-row-back (l .row) .0, column-back (l .colu
 
 pub symbol-small : (s : Symbol) → symbolPlace s < 80
 symbol-small s = omega (arith, symbol-row-back (s .row) .0, column-back (s .column) .0)
+
+-- a place and what stands there give each other back
+pub letter-again : (l : Letter) → letterAt (letterPlace l) ≡ l
+letter-again l =
+    let row : letterPlace l / 16 ≡ letterRowNumber (l .row) = omega (arith, column-back (l .column) .0) in
+    let column : letterPlace l % 16 ≡ columnNumber (l .column) = omega (arith, column-back (l .column) .0) in
+    ap₂ {C = Letter} (λ (r : LetterRow) (c : Column). record { row = r; column = c })
+    (ap letterRowAt row ∙ letter-row-back (l .row) .1) (ap columnAt column ∙ column-back (l .column) .1)
+
+pub symbol-again : (s : Symbol) → symbolAt (symbolPlace s) ≡ s
+symbol-again s =
+    let row : symbolPlace s / 16 ≡ symbolRowNumber (s .row) = omega (arith, column-back (s .column) .0) in
+    let column : symbolPlace s % 16 ≡ columnNumber (s .column) = omega (arith, column-back (s .column) .0) in
+    ap₂ {C = Symbol} (λ (r : SymbolRow) (c : Column). record { row = r; column = c })
+    (ap symbolRowAt row ∙ symbol-row-back (s .row) .1) (ap columnAt column ∙ column-back (s .column) .1)
+
+pub letter-place : (n : ℕ) → n < 96 → letterPlace (letterAt n) ≡ n
+letter-place n less = agree (λ (x : ℕ). letterPlace (letterAt x)) (λ (x : ℕ). x) 96 refl n less
+
+pub symbol-place : (n : ℕ) → n < 80 → symbolPlace (symbolAt n) ≡ n
+symbol-place n less = agree (λ (x : ℕ). symbolPlace (symbolAt x)) (λ (x : ℕ). x) 80 refl n less
 
 -- what a style's number determines
 pub color-by-number : (t : PreambleType) → cond (ltb (styleOf t) 7) (colorAt (styleOf t)) White ≡ colorOfStyle t

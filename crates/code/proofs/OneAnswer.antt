@@ -33,7 +33,6 @@ use Rattle.code.specs.declared.read.FromData.{FromData}
 use Rattle.code.specs.declared.read.FromData.the-variants as from-data
 use Rattle.code.specs.declared.write.Domain.{Domain}
 use Rattle.code.specs.declared.write.Domain.the-variants as domain
-use Rattle.code.specs.declared.write.RowBytes.{RowBytes}
 use Rattle.code.specs.declared.write.RowBytes.the-variants as row-bytes
 use Rattle.code.specs.declared.write.Written.{Written}
 use Rattle.code.specs.declared.write.Written.the-variants as written

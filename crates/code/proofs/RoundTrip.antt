@@ -12,7 +12,8 @@ use Rattle.code.proofs.Agree.{agree, agree-grid}
 use Rattle.code.specs.Outcome.{Outcome, answer, refused}
 use Rattle.code.specs.Parity.{isOdd, stripped, withParity}
 use Rattle.code.specs.Read.{codesOf, commandOf, isCommand, readPair, single}
-use Rattle.code.specs.Write.{asSingle, pair, together, writeCode, writeTwo}
+use Rattle.code.specs.Pair.{pair}
+use Rattle.code.specs.Write.{asSingle, together, writeCode, writeTwo}
 use Rattle.code.specs.declared.code.Code.{Code}
 use Rattle.code.specs.declared.code.Code.the-variants as code
 use Rattle.code.specs.declared.pair.Pair.{Pair}
@@ -88,6 +89,31 @@ abbrev pub countPairs : (ℕ → ℕ → Bool) → ℕ → ℕ → ℕ
 countPairs f zero m = 0
 countPairs f (suc n) m = count (f n) m + countPairs f n m
 
-pub passing-pairs : countPairs passes 256 256 ≡ 16384
+odd-pairs : countPairs passes 256 256 ≡ 16384
 unfolding ones onesIn
-passing-pairs = refl
+odd-pairs = refl
+
+-- of two tests that agree the counts are the same
+count-same : (f g : ℕ → Bool) (n : ℕ) → ((k : ℕ) → f k ≡ g k) → count f n ≡ count g n
+count-same f g zero same = refl
+count-same f g (suc n) same = rw (same n, count-same f g n same) refl
+
+pairs-same : (f g : ℕ → ℕ → Bool) (n m : ℕ) → ((a b : ℕ) → f a b ≡ g a b) → countPairs f n m ≡ countPairs g n m
+pairs-same f g zero m same = refl
+pairs-same f g (suc n) m same = rw (count-same (f n) (g n) m (same n), pairs-same f g n m same) refl
+
+-- so many pairs are read
+abbrev pub isRead : Outcome (Code × Code) → Bool
+isRead (answer codes) = true
+isRead (refused n) = false
+
+read-by : (t : Bool) (codes : Code × Code) → isRead (cond t (answer codes) (refused 1)) ≡ t
+read-by true codes = refl
+read-by false codes = refl
+
+read-where-odd : (a b : ℕ) → isRead (readPair a b) ≡ passes a b
+unfolding readPair
+read-where-odd a b = read-by (passes a b) (codesOf (stripped a) (stripped b))
+
+pub pairs-that-are-read : countPairs (λ (a b : ℕ). isRead (readPair a b)) 256 256 ≡ 16384
+pairs-that-are-read = pairs-same (λ (a b : ℕ). isRead (readPair a b)) passes 256 256 read-where-odd ∙ odd-pairs

@@ -1,19 +1,22 @@
 -- The rules of the tables, each once over its table: the bytes rise, so that no byte or pair occurs twice; an entry's
 -- bytes are read as that entry, and the entry is written as its bytes; a character occurs once.
 -- Assumes nothing.
-use mathlib.Core.Option.{none, some}
-use mathlib.Core.Path.{_≡_, refl}
+use mathlib.Core.List.{List}
+use mathlib.Core.Option.{Option, Option·none-ne-some, Option·some-injective, none, some}
+use mathlib.Core.Path.{_≡_, refl, ap, sym, _∙_}
 use Prim.Native.Nat.{ℕ, _/_, _%_, _<_}
 use lib.Count.{ones, onesIn}
 use lib.ListN.{getD}
 use Rattle.code.proofs.Agree.{agree}
 use Rattle.code.proofs.Increasing.{Increasing, increasing}
-use Rattle.code.specs.Characters.{standard, symbols}
+use Rattle.code.specs.Characters.{placeOf, standard, symbols}
 use Rattle.code.specs.Outcome.{answer}
-use Rattle.code.specs.Position.{position}
-use Rattle.code.specs.Read.{meaning, rowPrefixes, single}
-use Rattle.code.specs.Tables.{bytesOf, codeAt, codeEntries, controlAt, controlEntries}
-use Rattle.code.specs.Write.{asSingle, controlBytes, twoBytes, writeCode}
+use Rattle.code.specs.Pair.{samePair}
+use Rattle.code.specs.Position.{firstPlace}
+use Rattle.code.specs.Preamble.{rowPrefix, rowPrefixes}
+use Rattle.code.specs.Read.{meaning, single}
+use Rattle.code.specs.Tables.{bytesOf, codeAt, codeEntries, controlAt, controlEntries, twoBytes}
+use Rattle.code.specs.Write.{asSingle, controlBytes, writeCode}
 
 pub characters-rise : Increasing codeEntries
 unfolding codeEntries standard
@@ -50,19 +53,32 @@ control-written i less =
     agree (λ (x : ℕ). controlBytes (controlAt x)) (λ (x : ℕ). answer (twoBytes (entryBytes x))) 99 refl i less
 
 -- each row's prefix is its own
-pub row-back : (row : ℕ) → row < 15 → position (getD rowPrefixes row 0) rowPrefixes ≡ some row
-row-back row less = agree (λ (x : ℕ). position (getD rowPrefixes x 0) rowPrefixes) (λ (x : ℕ). some x) 15 refl row less
+pub row-back : (row : ℕ) → row < 15 → firstPlace (samePair (rowPrefix row)) rowPrefixes ≡ some row
+row-back row less = agree (λ (x : ℕ). firstPlace (samePair (rowPrefix x)) rowPrefixes) (λ (x : ℕ). some x) 15 refl row less
 
--- a character's first place is its only one
-pub letter-once : (n : ℕ) → n < 96 → position (getD standard n 0) standard ≡ some n
+-- a character's first place is its only one, and no symbol is a standard character
+abbrev pub firstIn : List (Option ℕ) → Option ℕ → Option ℕ
+firstIn l none = none
+firstIn l (some c) = placeOf c l
+
+pub letter-once : (n : ℕ) → n < 96 → firstIn standard (getD standard n none) ≡ some n
 unfolding standard
-letter-once n less = agree (λ (x : ℕ). position (getD standard x 0) standard) (λ (x : ℕ). some x) 96 refl n less
+letter-once n less = agree (λ (x : ℕ). firstIn standard (getD standard x none)) (λ (x : ℕ). some x) 96 refl n less
 
-pub symbol-once : (n : ℕ) → n < 80 → position (getD symbols n 0) symbols ≡ some n
+abbrev onlyAt : ℕ → Option ℕ → Option ℕ
+onlyAt n none = none
+onlyAt n (some c) = some n
+
+only-by : (n c : ℕ) (o : Option ℕ) → firstIn symbols o ≡ onlyAt n o → o ≡ some c → placeOf c symbols ≡ some n
+only-by n c none known e = absurd (Option·none-ne-some c e)
+only-by n c (some d) known e = ap (λ (x : ℕ). placeOf x symbols) (sym (Option·some-injective d c e)) ∙ known
+
+pub symbol-once : (n c : ℕ) → n < 80 → getD symbols n none ≡ some c → placeOf c symbols ≡ some n
 unfolding symbols
-symbol-once n less = agree (λ (x : ℕ). position (getD symbols x 0) symbols) (λ (x : ℕ). some x) 80 refl n less
+symbol-once n c less e =
+    only-by n c (getD symbols n none)
+    (agree (λ (x : ℕ). firstIn symbols (getD symbols x none)) (λ (x : ℕ). onlyAt x (getD symbols x none)) 80 refl n less) e
 
--- and no symbol is a standard character
-pub symbol-apart : (n : ℕ) → n < 80 → position (getD symbols n 0) standard ≡ none
+pub symbol-apart : (n : ℕ) → n < 80 → firstIn standard (getD symbols n none) ≡ none
 unfolding standard symbols
-symbol-apart n less = agree (λ (x : ℕ). position (getD symbols x 0) standard) (λ (x : ℕ). none) 80 refl n less
+symbol-apart n less = agree (λ (x : ℕ). firstIn standard (getD symbols x none)) (λ (x : ℕ). none) 80 refl n less

@@ -13,8 +13,9 @@ use Rattle.code.specs.Outcome.{Outcome, answer, refused}
 use Rattle.code.specs.Parity.{isOdd, stripped, withParity}
 use Rattle.code.proofs.OneAnswer.{clash, same}
 use Rattle.code.specs.Letter.{letterAt}
+use Rattle.code.specs.Pair.{pair}
 use Rattle.code.specs.Read.{codesOf, commandOf, isCommand, readPair, single}
-use Rattle.code.specs.Write.{asCommand, asSingle, controlBytes, controlInDomain, inDomain, pair, preambleBytes, unless, writeCode}
+use Rattle.code.specs.Write.{asCommand, asSingle, controlBytes, controlInDomain, inDomain, preambleBytes, writeCode}
 use Rattle.code.specs.declared.channel.Channel.{Channel}
 use Rattle.code.specs.declared.code.Code.{Code}
 use Rattle.code.specs.declared.code.Code.the-variants as code
@@ -101,11 +102,11 @@ abbrev pub settled : Outcome (Pair × ℕ) → Outcome Unit
 settled (answer x) = answer tt
 settled (refused n) = refused n
 
-tested : (t : Bool) (x : Outcome (Pair × ℕ)) (n : ℕ) → settled x ≡ answer tt → unless t n ≡ settled (cond t x (refused n))
+tested : (t : Bool) (x : Outcome (Pair × ℕ)) (n : ℕ) → settled x ≡ answer tt → cond t (answer tt) (refused n) ≡ settled (cond t x (refused n))
 tested true x n e = sym e
 tested false x n e = refl
 
-bytes-settled : (f : CodeField) (c : Channel) (t : Bool) (p : Pair) (n : ℕ) → unless t n ≡ settled (asCommand f c (cond t (answer p) (refused n)))
+bytes-settled : (f : CodeField) (c : Channel) (t : Bool) (p : Pair) (n : ℕ) → cond t (answer tt) (refused n) ≡ settled (asCommand f c (cond t (answer p) (refused n)))
 bytes-settled f c true p n = refl
 bytes-settled f c false p n = refl
 

@@ -5,43 +5,51 @@ use Prim.Native.Nat.{ℕ}
 use Prim.Native.Char.{code}
 use Prim.Native.String as text
 use Prim.Native.String.{String}
-use mathlib.Core.Bool.{cond}
-use mathlib.Core.List.{List, [], _∷_, _++_}
+use mathlib.Core.Bool.{Bool, false}
+use mathlib.Core.List.{List, [], _∷_, _++_, map}
 use mathlib.Core.Option.{Option, none, some}
 use lib.Dec.{eqb}
-use lib.ListN.{getD}
+use Rattle.code.specs.Position.{firstPlace}
 
 -- the code points of a text
 abbrev pub points : String → List ℕ
 points text.[] = []
 points (text._∷_ c s) = code c ∷ points s
 
--- the standard characters, from 0x20 to 0x7F
-unfoldable pub standard : List ℕ
-standard =
-    points " !\"#$%&’()á+,-./" ++ points "0123456789:;<=>?" ++ points "@ABCDEFGHIJKLMNO" ++ points "PQRSTUVWXYZ[é]íó"
-    ++ points "úabcdefghijklmno" ++ points "pqrstuvwxyzç÷Ññ█"
+-- places that each have a character
+abbrev pub characters : String → List (Option ℕ)
+characters s = map some (points s)
 
--- the special characters, from 11 30; the transparent space has no code point and is 0 here
-abbrev pub special : List ℕ
-special = points "®°½¿™¢£♪à" ++ 0 ∷ points "èâêîôû"
+-- the standard characters, from 0x20 to 0x7F
+unfoldable pub standard : List (Option ℕ)
+standard =
+    characters " !\"#$%&’()á+,-./" ++ characters "0123456789:;<=>?" ++ characters "@ABCDEFGHIJKLMNO" ++ characters "PQRSTUVWXYZ[é]íó"
+    ++ characters "úabcdefghijklmno" ++ characters "pqrstuvwxyzç÷Ññ█"
+
+-- the special characters, from 11 30; the transparent space has none
+abbrev pub special : List (Option ℕ)
+special = characters "®°½¿™¢£♪à" ++ (none ∷ characters "èâêîôû")
 
 -- the extended characters, from 12 20, 12 30, 13 20 and 13 30
-abbrev pub spanish : List ℕ
-spanish = points "ÁÉÓÚÜü‘¡*'—©℠•“”"
+abbrev pub spanish : List (Option ℕ)
+spanish = characters "ÁÉÓÚÜü‘¡*'—©℠•“”"
 
-abbrev pub french : List ℕ
-french = points "ÀÂÇÈÊËëÎÏïÔÙùÛ«»"
+abbrev pub french : List (Option ℕ)
+french = characters "ÀÂÇÈÊËëÎÏïÔÙùÛ«»"
 
-abbrev pub portuguese : List ℕ
-portuguese = points "ÃãÍÌìÒòÕõ{}\\^_|~"
+abbrev pub portuguese : List (Option ℕ)
+portuguese = characters "ÃãÍÌìÒòÕõ{}\\^_|~"
 
-abbrev pub german : List ℕ
-german = points "ÄäÖöß¥¤│ÅåØø┌┐└┘"
+abbrev pub german : List (Option ℕ)
+german = characters "ÄäÖöß¥¤│ÅåØø┌┐└┘"
 
-unfoldable pub symbols : List ℕ
+unfoldable pub symbols : List (Option ℕ)
 symbols = special ++ spanish ++ french ++ portuguese ++ german
 
--- the code point at a place, or none
-abbrev pub pointIn : List ℕ → ℕ → Option ℕ
-pointIn l n = cond (eqb (getD l n 0) 0) none (some (getD l n 0))
+-- the first place that has a character
+abbrev pub isPoint : ℕ → Option ℕ → Bool
+isPoint c none = false
+isPoint c (some d) = eqb c d
+
+abbrev pub placeOf : ℕ → List (Option ℕ) → Option ℕ
+placeOf c l = firstPlace (isPoint c) l

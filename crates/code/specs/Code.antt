@@ -1,13 +1,12 @@
 -- What else is known of a code, from 01: its length, whether the queue puts a space before it, its character, and the
 -- code of a character.
 use Prim.Native.Nat.{ℕ}
-use mathlib.Core.Bool.{Bool, true, false, cond}
+use mathlib.Core.Bool.{Bool, true, false}
 use mathlib.Core.Option.{Option, none, some}
-use lib.Dec.{eqb}
-use Rattle.code.specs.Characters.{standard, symbols, pointIn}
+use lib.ListN.{getD}
+use Rattle.code.specs.Characters.{placeOf, standard, symbols}
 use Rattle.code.specs.Letter.{letterAt, letterPlace}
 use Rattle.code.specs.Outcome.{Outcome, answer, refused}
-use Rattle.code.specs.Position.{position}
 use Rattle.code.specs.Symbol.{symbolAt, symbolPlace}
 use Rattle.code.specs.declared.channel.Channel.{Channel}
 use Rattle.code.specs.declared.character.Character.{Character}
@@ -55,7 +54,7 @@ needsBackspace (code.Unknown b) = false
 -- the code point of a code, or none
 abbrev pub controlChar : Control → Option ℕ
 controlChar (control.MidRow m) = none
-controlChar (control.Symbol s) = pointIn symbols (symbolPlace s)
+controlChar (control.Symbol s) = getD symbols (symbolPlace s) none
 controlChar (control.Command c) = none
 controlChar (control.Tab t) = none
 controlChar (control.Preamble p) = none
@@ -64,7 +63,7 @@ controlChar (control.Unknown a b) = none
 abbrev pub charOf : Code → Option ℕ
 charOf code.Nul = none
 charOf (code.Control c) = controlChar (c .control)
-charOf (code.Letter l) = pointIn standard (letterPlace l)
+charOf (code.Letter l) = getD standard (letterPlace l) none
 charOf (code.Unknown b) = none
 
 abbrev pub characterOutcome : Character → Option ℕ
@@ -82,9 +81,8 @@ abbrev pub letterCode : Option ℕ → Outcome Code → Outcome Code
 letterCode none other = other
 letterCode (some i) other = answer (code.Letter (letterAt i))
 
--- 0 marks a place without a character, and is itself refused
 unfoldable pub fromChar : ℕ → Channel → Outcome Code
-fromChar c ch = cond (eqb c 0) (refused 5) (letterCode (position c standard) (symbolCode ch (position c symbols)))
+fromChar c ch = letterCode (placeOf c standard) (symbolCode ch (placeOf c symbols))
 
 abbrev pub fromCharOutcome : FromChar → Outcome Code
 fromCharOutcome (Made x) = answer x

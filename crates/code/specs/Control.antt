@@ -1,11 +1,11 @@
 -- Control codes: the miscellaneous commands and the tab offsets, in the order of 47 CFR 79.101 (i). The field that a
 -- code may name is from CTA-608 as 01 has it; refusal 4 is 01's.
-use Prim.Native.Nat.{ℕ}
+use Prim.Native.Nat.{ℕ, _-_}
+use mathlib.Core.Bool.{cond}
 use mathlib.Core.List.{List, [], _∷_}
-use mathlib.Core.Option.{Option, none, some}
 use lib.ListN.{getD}
 use Rattle.code.specs.Outcome.{Outcome, answer, refused}
-use Rattle.code.specs.Position.{position}
+use Rattle.code.specs.Range.{within}
 use Rattle.code.specs.declared.channel.Channel.{Channel}
 use Rattle.code.specs.declared.channel.Field.{Field}
 use Rattle.code.specs.declared.control.CodeField.{CodeField}
@@ -79,12 +79,8 @@ tabNumber TabOffset2 = 2
 tabNumber TabOffset3 = 3
 
 -- 4: a count other than 1, 2, 3
-abbrev pub tabOffsetPlace : Option ℕ → Outcome Control
-tabOffsetPlace none = refused 4
-tabOffsetPlace (some i) = answer (control.Tab (tabAt i))
-
 abbrev pub tabOffset : ℕ → Outcome Control
-tabOffset n = tabOffsetPlace (position n (1 ∷ 2 ∷ 3 ∷ []))
+tabOffset n = cond (within 1 3 n) (answer (control.Tab (tabAt (n - 1)))) (refused 4)
 
 abbrev pub tabOffsetOutcome : TabOffset → Outcome Control
 tabOffsetOutcome (Made c) = answer c

@@ -1,4 +1,6 @@
 pub mod Outcome
+pub mod Range
+pub mod Pair
 pub mod Position
 pub mod Parity
 pub mod Channel

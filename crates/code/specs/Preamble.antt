@@ -1,16 +1,17 @@
 -- Preamble address codes, from 47 CFR 79.101 (d) and (h): fifteen rows, and sixteen styles with and without an
 -- underline. That rows are counted from 0, and refusals 3 and 8, are 01's.
-use Prim.Native.Nat.{ℕ, _+_, _-_}
-use mathlib.Core.Bool.{Bool, true, false, cond}
+use Prim.Native.Nat.{ℕ, _+_, _-_, _/_, _%_}
+use mathlib.Core.Bool.{Bool, true, false, cond, _&&_}
 use mathlib.Core.List.{List, [], _∷_}
 use mathlib.Core.Option.{Option, none, some}
-use lib.Dec.{leb, ltb}
+use lib.Dec.{eqb, leb, ltb}
 use lib.ListN.{getD}
 use Rattle.code.specs.Color.{colorAt, colorNumber}
 use Rattle.code.specs.Outcome.{Outcome, answer, refused}
-use Rattle.code.specs.Position.{position}
+use Rattle.code.specs.Pair.{pair}
 use Rattle.code.specs.declared.color.Color.{Color}
 use Rattle.code.specs.declared.color.Color.the-variants.{White}
+use Rattle.code.specs.declared.pair.Pair.{Pair}
 use Rattle.code.specs.declared.preamble.FromIndent.{FromIndent}
 use Rattle.code.specs.declared.preamble.FromIndent.the-variants.{Made as Indented, NoSuchIndent}
 use Rattle.code.specs.declared.preamble.MaybeIndent.{MaybeIndent}
@@ -31,6 +32,17 @@ use Rattle.code.specs.declared.preamble.PreambleType.the-variants.{
   Indent24,
   Indent28,
 }
+
+-- the pair of each row's white preamble, rows 0 to 14; the style and the underline are added to its second byte
+abbrev pub rowPrefixes : List Pair
+rowPrefixes =
+    pair 0x11 0x40 ∷ pair 0x11 0x60 ∷ pair 0x12 0x40 ∷ pair 0x12 0x60 ∷ pair 0x15 0x40 ∷ pair 0x15 0x60 ∷ pair 0x16 0x40
+    ∷ pair 0x16 0x60 ∷ pair 0x17 0x40 ∷ pair 0x17 0x60 ∷ pair 0x10 0x40 ∷ pair 0x13 0x40 ∷ pair 0x13 0x60 ∷ pair 0x14 0x40
+    ∷ pair 0x14 0x60 ∷ []
+
+-- above row 14 there is none
+abbrev pub rowPrefix : ℕ → Pair
+rowPrefix row = getD rowPrefixes row (pair 0 0)
 
 -- the styles that are no colour
 abbrev pub plainStyles : List PreambleType
@@ -55,17 +67,9 @@ styleOf Indent20 = 13
 styleOf Indent24 = 14
 styleOf Indent28 = 15
 
--- the indents that there are
-abbrev pub indents : List ℕ
-indents = 0 ∷ 4 ∷ 8 ∷ 12 ∷ 16 ∷ 20 ∷ 24 ∷ 28 ∷ []
-
--- the eight indents are styles 8 to 15; 8: another indent
-abbrev pub fromIndentPlace : Option ℕ → Outcome PreambleType
-fromIndentPlace none = refused 8
-fromIndentPlace (some i) = answer (styleAt (8 + i))
-
+-- the indents 0, 4, 8, .. 28 are styles 8 to 15; 8: another indent
 abbrev pub fromIndent : ℕ → Outcome PreambleType
-fromIndent n = fromIndentPlace (position n indents)
+fromIndent n = cond (eqb (n % 4) 0 && leb n 28) (answer (styleAt (8 + n / 4))) (refused 8)
 
 abbrev pub fromIndentOutcome : FromIndent → Outcome PreambleType
 fromIndentOutcome (Indented t) = answer t
@@ -105,8 +109,11 @@ maybeIndentOutcome (Indent n) = some n
 maybeIndentOutcome Absent = none
 
 -- 3: a row above 14
+abbrev pub inRow : {A : Type 0} → ℕ → A → Outcome A
+inRow row x = cond (leb row 14) (answer x) (refused 3)
+
 abbrev pub newPreamble : ℕ → Bool → PreambleType → Outcome PreambleAddressCode
-newPreamble row u t = cond (leb row 14) (answer (record { row = row; underline = u; ty = t })) (refused 3)
+newPreamble row u t = inRow row (record { row = row; underline = u; ty = t })
 
 abbrev pub newPreambleOutcome : NewPreamble → Outcome PreambleAddressCode
 newPreambleOutcome (Made p) = answer p

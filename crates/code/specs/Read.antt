@@ -1,8 +1,7 @@
 -- What a pair means. From 47 CFR 79.101 (g), (h), (i): characters, control codes, the channel bit. From CTA-608 as 01
 -- has it: extended characters and the field. From 01: `Unknown`, and refusal 1, which follows the crate against (j).
-use Prim.Native.Nat.{ℕ, _+_, _*_, _-_, _/_, _%_}
+use Prim.Native.Nat.{ℕ, _+_, _-_, _/_, _%_}
 use mathlib.Core.Bool.{Bool, cond, _&&_}
-use mathlib.Core.List.{List, [], _∷_}
 use mathlib.Core.Option.{Option, none, some}
 use lib.Dec.{eqb, leb}
 use Rattle.code.specs.Channel.{channelOne, channelTwo, fieldOne, fieldTwo}
@@ -12,8 +11,11 @@ use Rattle.code.specs.Letter.{letterAt}
 use Rattle.code.specs.MidRow.{midRowAt}
 use Rattle.code.specs.Outcome.{Outcome, answer, refused}
 use Rattle.code.specs.Parity.{isOdd, stripped}
-use Rattle.code.specs.Position.{position}
-use Rattle.code.specs.Preamble.{styleAt}
+use Rattle.code.specs.Pair.{pair, samePair}
+use Rattle.code.specs.Position.{firstPlace}
+use Rattle.code.specs.Preamble.{rowPrefixes, styleAt}
+use Rattle.code.specs.Range.{within}
+use Rattle.code.specs.Symbol.{symbolBase}
 use Rattle.code.specs.declared.channel.Channel.{Channel}
 use Rattle.code.specs.declared.code.Code.{Code}
 use Rattle.code.specs.declared.code.Code.the-variants as code
@@ -27,9 +29,6 @@ use Rattle.code.specs.declared.read.FromData.{FromData}
 use Rattle.code.specs.declared.read.FromData.the-variants.{Codes, InvalidParity}
 use Rattle.code.specs.declared.symbol.SymbolRow.{SymbolRow}
 use Rattle.code.specs.declared.symbol.SymbolRow.the-variants.{Special, Spanish, French, Portuguese, German}
-
-abbrev pub within : ℕ → ℕ → ℕ → Bool
-within low high b = leb low b && leb b high
 
 -- bit 0x01 underlines
 abbrev pub underlined : ℕ → Bool
@@ -54,20 +53,18 @@ fieldOf p b =
 abbrev pub withoutField : ℕ → ℕ → ℕ
 withoutField p b = cond (within 0x20 0x2F b && eqb p 0x15) 0x14 p
 
--- the pair of each row's white preamble, rows 0 to 14
-abbrev pub rowPrefixes : List ℕ
-rowPrefixes =
-    0x1140 ∷ 0x1160 ∷ 0x1240 ∷ 0x1260 ∷ 0x1540 ∷ 0x1560 ∷ 0x1640 ∷ 0x1660 ∷ 0x1740 ∷ 0x1760 ∷ 0x1040 ∷ 0x1340 ∷ 0x1360
-    ∷ 0x1440 ∷ 0x1460 ∷ []
-
-abbrev pub rowOf : ℕ → ℕ → Option ℕ
-rowOf p b = position (p * 256 + (b - b % 32)) rowPrefixes
-
 -- a preamble: its row by its prefix, its style in bits 0x1E
+abbrev pub rowOf : ℕ → ℕ → Option ℕ
+rowOf p b = firstPlace (samePair (pair p (b - b % 32))) rowPrefixes
+
 abbrev pub preambleAt : ℕ → Option ℕ → Option Control
 preambleAt b none = none
 preambleAt b (some row) =
     some (control.Preamble (record { row = row; underline = underlined b; ty = styleAt (b % 32 / 2) }))
+
+-- a symbol: its row by the first byte and the upper digit of the second, its column by the lower digit
+abbrev pub isInRow : SymbolRow → ℕ → ℕ → Bool
+isInRow r p b = eqb p (symbolBase r .0) && within (symbolBase r .1) (symbolBase r .1 + 15) b
 
 abbrev pub symbolIn : SymbolRow → ℕ → Option Control
 symbolIn r b = some (control.Symbol (record { row = r; column = columnAt (b % 16) }))
@@ -76,11 +73,11 @@ symbolIn r b = some (control.Symbol (record { row = r; column = columnAt (b % 16
 abbrev pub meaning : ℕ → ℕ → Option Control
 meaning p b =
     cond (eqb p 0x11 && within 0x20 0x2F b) (some (control.MidRow (midRowAt ((b - 0x20) / 2) (underlined b))))
-    (cond (eqb p 0x11 && within 0x30 0x3F b) (symbolIn Special b)
-    (cond (eqb p 0x12 && within 0x20 0x2F b) (symbolIn Spanish b)
-    (cond (eqb p 0x12 && within 0x30 0x3F b) (symbolIn French b)
-    (cond (eqb p 0x13 && within 0x20 0x2F b) (symbolIn Portuguese b)
-    (cond (eqb p 0x13 && within 0x30 0x3F b) (symbolIn German b)
+    (cond (isInRow Special p b) (symbolIn Special b)
+    (cond (isInRow Spanish p b) (symbolIn Spanish b)
+    (cond (isInRow French p b) (symbolIn French b)
+    (cond (isInRow Portuguese p b) (symbolIn Portuguese b)
+    (cond (isInRow German p b) (symbolIn German b)
     (cond (eqb p 0x14 && within 0x20 0x2F b) (some (control.Command (commandAt (b - 0x20))))
     (cond (eqb p 0x17 && within 0x21 0x23 b) (some (control.Tab (tabAt (b - 0x21)))) (preambleAt b (rowOf p b)))))))))
 
@@ -111,10 +108,6 @@ isOddPair p = isOdd (p .0) && isOdd (p .1)
 
 abbrev pub isCommandPair : Pair → Bool
 isCommandPair p = isCommand (stripped (p .0))
-
--- both bytes are the same
-abbrev pub samePair : Pair → Pair → Bool
-samePair p q = eqb (p .0) (q .0) && eqb (p .1) (q .1)
 
 -- the codes of a received pair; 1: a byte with an even count of ones
 unfoldable pub readPair : ℕ → ℕ → Outcome (Code × Code)

@@ -4,6 +4,8 @@ use Prim.Native.Nat.{ℕ, _+_, _*_, _/_, _%_}
 use mathlib.Core.List.{List, [], _∷_}
 use lib.ListN.{getD}
 use Rattle.code.specs.Column.{columnAt, columnNumber}
+use Rattle.code.specs.Pair.{pair}
+use Rattle.code.specs.declared.pair.Pair.{Pair}
 use Rattle.code.specs.declared.symbol.Symbol.{Symbol}
 use Rattle.code.specs.declared.symbol.SymbolRow.{SymbolRow}
 use Rattle.code.specs.declared.symbol.SymbolRow.the-variants.{Special, Spanish, French, Portuguese, German}
@@ -20,6 +22,14 @@ symbolRowNumber Spanish = 1
 symbolRowNumber French = 2
 symbolRowNumber Portuguese = 3
 symbolRowNumber German = 4
+
+-- the bytes of the first symbol of each row; the others rise by one from it
+abbrev pub symbolBase : SymbolRow → Pair
+symbolBase Special = pair 0x11 0x30
+symbolBase Spanish = pair 0x12 0x20
+symbolBase French = pair 0x12 0x30
+symbolBase Portuguese = pair 0x13 0x20
+symbolBase German = pair 0x13 0x30
 
 -- the symbol at a place, and the place of a symbol, from 0 for the registered mark
 abbrev pub symbolAt : ℕ → Symbol

@@ -3,16 +3,16 @@
 -- definitions of `Read`, `Write` and `Characters`.
 use Prim.Native.Nat.{ℕ, suc, _+_, _*_, _-_, _/_, _%_}
 use mathlib.Core.Bool.{cond}
-use mathlib.Core.List.{List, [], _∷_, _++_}
+use mathlib.Core.List.{List, [], _∷_, _++_, map}
 use mathlib.Core.Option.{Option, none, some}
 use lib.Dec.{eqb, ltb}
 use lib.ListN.{getD, replicate}
 use Rattle.code.specs.Characters.{standard, symbols, special, spanish, french, portuguese, german}
 use Rattle.code.specs.Control.{commandAt, tabAt}
 use Rattle.code.specs.Letter.{letterAt}
-use Rattle.code.specs.Read.{rowPrefixes, within}
-use Rattle.code.specs.Symbol.{symbolAt}
-use Rattle.code.specs.Write.{twoBytes}
+use Rattle.code.specs.Pair.{pair}
+use Rattle.code.specs.Range.{within}
+use Rattle.code.specs.Symbol.{symbolAt, symbolBase}
 use Rattle.code.specs.declared.code.Code.{Code}
 use Rattle.code.specs.declared.code.Code.the-variants as code
 use Rattle.code.specs.declared.control.Control.{Control}
@@ -20,6 +20,7 @@ use Rattle.code.specs.declared.control.Control.the-variants as control
 use Rattle.code.specs.declared.pair.Pair.{Pair}
 use Rattle.code.specs.declared.read.Meaning.{Meaning}
 use Rattle.code.specs.declared.read.Meaning.the-variants as meant
+use Rattle.code.specs.declared.symbol.SymbolRow.the-variants.{Special, Spanish, French, Portuguese, German}
 use Rattle.code.specs.declared.tables.Found.{Found}
 use Rattle.code.specs.declared.tables.Found.the-variants.{At, Absent}
 
@@ -34,10 +35,22 @@ pointOf e = e % 65536
 abbrev pub entryPoint : ℕ → Option ℕ
 entryPoint e = cond (eqb (pointOf e) 0) none (some (pointOf e))
 
--- entries for these code points, the bytes rising by one from the first
-abbrev pub entries : ℕ → List ℕ → List ℕ
+-- 0 where there is none
+abbrev pub orZero : Option ℕ → ℕ
+orZero none = 0
+orZero (some c) = c
+
+-- two bytes as one number, and back
+abbrev pub packed : Pair → ℕ
+packed p = p .0 * 256 + p .1
+
+abbrev pub twoBytes : ℕ → Pair
+twoBytes n = pair (n / 256) (n % 256)
+
+-- entries for these characters, the bytes rising by one from the first
+abbrev pub entries : ℕ → List (Option ℕ) → List ℕ
 entries bytes [] = []
-entries bytes (p ∷ ps) = (bytes * 65536 + p) ∷ entries (suc bytes) ps
+entries bytes (c ∷ cs) = (bytes * 65536 + orZero c) ∷ entries (suc bytes) cs
 
 -- NUL, then 0x20 to 0x7F
 unfoldable pub codeEntries : List ℕ
@@ -46,12 +59,14 @@ codeEntries = 0 ∷ entries 0x20 standard
 -- the symbols, the commands 14 20 to 14 2F and the tabs 17 21 to 17 23
 unfoldable pub controlEntries : List ℕ
 controlEntries =
-    entries 0x1130 special ++ entries 0x1220 spanish ++ entries 0x1230 french ++ entries 0x1320 portuguese
-    ++ entries 0x1330 german ++ entries 0x1420 (replicate 16 0) ++ entries 0x1721 (replicate 3 0)
+    entries (packed (symbolBase Special)) special ++ entries (packed (symbolBase Spanish)) spanish
+    ++ entries (packed (symbolBase French)) french ++ entries (packed (symbolBase Portuguese)) portuguese
+    ++ entries (packed (symbolBase German)) german ++ entries 0x1420 (replicate 16 none)
+    ++ entries 0x1721 (replicate 3 none)
 
 -- the code points of the standard characters, then of the symbols
 abbrev pub allPoints : List ℕ
-allPoints = standard ++ symbols
+allPoints = map orZero (standard ++ symbols)
 
 abbrev pub codeAt : ℕ → Code
 codeAt i = cond (eqb i 0) code.Nul (code.Letter (letterAt (i - 1)))
@@ -76,7 +91,3 @@ meaningOf (some c) = meant.Of c
 -- the tab of a second byte after 17
 abbrev pub tabIn : ℕ → Option Control
 tabIn b = cond (within 0x21 0x23 b) (some (control.Tab (tabAt (b - 0x21)))) none
-
--- the bytes of a row's white preamble; a row above 14 has none
-abbrev pub prefixAt : ℕ → Pair
-prefixAt row = twoBytes (getD rowPrefixes row 0)

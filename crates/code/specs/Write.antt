@@ -2,18 +2,18 @@
 -- CTA-608 as 01 has it: extended characters and the field. From 01: `Unknown`, lengths, refusals 2 and 3.
 use Prim.Native.Nat.{ℕ, _+_, _*_, _/_, _%_}
 use mathlib.Core.Bool.{Bool, true, false, cond, _&&_, not}
-use mathlib.Core.List.{List, [], _∷_}
-use lib.Dec.{eqb, leb, ltb}
-use lib.ListN.{getD}
+use lib.Dec.{eqb, ltb}
 use Rattle.code.specs.Column.{columnNumber}
 use Rattle.code.specs.Control.{commandNumber, tabNumber}
 use Rattle.code.specs.Letter.{letterPlace}
 use Rattle.code.specs.MidRow.{midRowNumber}
 use Rattle.code.specs.Outcome.{Outcome, answer, refused}
+use Rattle.code.specs.Pair.{pair, plus}
 use Rattle.code.specs.Parity.{withParity}
-use Rattle.code.specs.Preamble.{styleOf}
-use Rattle.code.specs.Read.{isCommand, rowPrefixes, within}
-use Rattle.code.specs.Symbol.{symbolRowNumber}
+use Rattle.code.specs.Preamble.{inRow, rowPrefix, styleOf}
+use Rattle.code.specs.Range.{within}
+use Rattle.code.specs.Read.{isCommand}
+use Rattle.code.specs.Symbol.{symbolBase}
 use Rattle.code.specs.declared.channel.Channel.{Channel}
 use Rattle.code.specs.declared.code.Code.{Code}
 use Rattle.code.specs.declared.code.Code.the-variants as code
@@ -25,7 +25,6 @@ use Rattle.code.specs.declared.midrow.MidRow.{MidRow}
 use Rattle.code.specs.declared.pair.Pair.{Pair}
 use Rattle.code.specs.declared.preamble.PreambleAddressCode.{PreambleAddressCode}
 use Rattle.code.specs.declared.symbol.Symbol.{Symbol}
-use Rattle.code.specs.declared.symbol.SymbolRow.{SymbolRow}
 use Rattle.code.specs.declared.write.Bytes.{Bytes}
 use Rattle.code.specs.declared.write.Bytes.the-variants as bytes
 use Rattle.code.specs.declared.write.Domain.{Domain}
@@ -35,46 +34,36 @@ use Rattle.code.specs.declared.write.RowBytes.the-variants as row-bytes
 use Rattle.code.specs.declared.write.Written.{Written}
 use Rattle.code.specs.declared.write.Written.the-variants.{Made, UnknownByte, NoSuchRow}
 
-abbrev pub pair : ℕ → ℕ → Pair
-pair a b = record { 0 = a; 1 = b }
-
 abbrev pub bit : Bool → ℕ
 bit true = 1
 bit false = 0
-
--- two bytes given as one number
-abbrev pub twoBytes : ℕ → Pair
-twoBytes n = pair (n / 256) (n % 256)
 
 -- from 11 20 on
 abbrev pub midRowBytes : MidRow → Pair
 midRowBytes m = pair 0x11 (0x20 + 2 * midRowNumber m + bit (m .underline))
 
--- the first of each row of symbols
-abbrev pub symbolBases : List ℕ
-symbolBases = 0x1130 ∷ 0x1220 ∷ 0x1230 ∷ 0x1320 ∷ 0x1330 ∷ []
-
-abbrev pub symbolBase : SymbolRow → Pair
-symbolBase r = twoBytes (getD symbolBases (symbolRowNumber r) 0)
-
 abbrev pub symbolBytes : Symbol → Pair
-symbolBytes s = twoBytes (getD symbolBases (symbolRowNumber (s .row)) 0 + columnNumber (s .column))
+symbolBytes s = plus (symbolBase (s .row)) (columnNumber (s .column))
 
 abbrev pub preambleBytes : PreambleAddressCode → Pair
-preambleBytes p = twoBytes (getD rowPrefixes (p .row) 0 + (2 * styleOf (p .ty) + bit (p .underline)))
+preambleBytes p = plus (rowPrefix (p .row)) (2 * styleOf (p .ty) + bit (p .underline))
 
--- 3: a row above 14
+-- 3 as a preamble's constructor has it
 abbrev pub rowBytes : PreambleAddressCode → Outcome Pair
-rowBytes p = cond (leb (p .row) 14) (answer (preambleBytes p)) (refused 3)
+rowBytes p = inRow (p .row) (preambleBytes p)
 
--- the two bytes of a control, channel, field and parity aside; 2: a byte of 0x80 or more
+-- 2: an `Unknown` with a byte of 0x80 or more
+abbrev pub ofSevenBits : {A : Type 0} → Bool → A → Outcome A
+ofSevenBits small x = cond small (answer x) (refused 2)
+
+-- the two bytes of a control, channel, field and parity aside
 abbrev pub controlBytes : Control → Outcome Pair
 controlBytes (control.MidRow m) = answer (midRowBytes m)
 controlBytes (control.Symbol s) = answer (symbolBytes s)
 controlBytes (control.Command c) = answer (pair 0x14 (0x20 + commandNumber c))
 controlBytes (control.Tab t) = answer (pair 0x17 (0x20 + tabNumber t))
 controlBytes (control.Preamble p) = rowBytes p
-controlBytes (control.Unknown a b) = cond (ltb a 0x80 && ltb b 0x80) (answer (pair a b)) (refused 2)
+controlBytes (control.Unknown a b) = ofSevenBits (ltb a 0x80 && ltb b 0x80) (pair a b)
 
 -- field two turns 14 before 20 to 2F into 15
 abbrev pub isFieldTwo : CodeField → Bool
@@ -114,25 +103,20 @@ writtenOutcome (Made p n) = answer (p, n)
 writtenOutcome UnknownByte = refused 2
 writtenOutcome NoSuchRow = refused 3
 
--- an answer where the test passes, else the refusal
-abbrev pub unless : Bool → ℕ → Outcome Unit
-unless true n = answer tt
-unless false n = refused n
-
+-- a code that can be written: 2 and 3 as above
 abbrev pub controlInDomain : Control → Outcome Unit
 controlInDomain (control.MidRow m) = answer tt
 controlInDomain (control.Symbol s) = answer tt
 controlInDomain (control.Command c) = answer tt
 controlInDomain (control.Tab t) = answer tt
-controlInDomain (control.Preamble p) = unless (leb (p .row) 14) 3
-controlInDomain (control.Unknown a b) = unless (ltb a 0x80 && ltb b 0x80) 2
+controlInDomain (control.Preamble p) = inRow (p .row) tt
+controlInDomain (control.Unknown a b) = ofSevenBits (ltb a 0x80 && ltb b 0x80) tt
 
--- a code that can be written: 2 and 3 as above
 unfoldable pub inDomain : Code → Outcome Unit
 inDomain code.Nul = answer tt
 inDomain (code.Control c) = controlInDomain (c .control)
 inDomain (code.Letter l) = answer tt
-inDomain (code.Unknown b) = unless (ltb b 0x80) 2
+inDomain (code.Unknown b) = ofSevenBits (ltb b 0x80) tt
 
 abbrev pub domainOutcome : Domain → Outcome Unit
 domainOutcome domain.Inside = answer tt

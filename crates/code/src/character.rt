@@ -1,19 +1,17 @@
 // The character of a code, and the code of a character.
 ghost use mathlib.Core.Path.{_≡_};
-ghost use Prim.Native.Nat.{_<_};
-ghost use Rattle.code.specs.Position.{position};
-ghost use Rattle.code.specs.Tables.{codeAt, controlAt, entryPoint};
+ghost use mathlib.Core.Option.{none};
+ghost use lib.ListN.{getD};
+ghost use Rattle.code.specs.Tables.{entryPoint};
 ghost use Rattle.code.specs.Code.{charOf, controlChar, characterOutcome, fromChar, fromCharOutcome, symbolCode};
-ghost use Rattle.code.specs.Characters.{pointIn, standard, symbols};
+ghost use Rattle.code.specs.Characters.{placeOf, standard, symbols};
 ghost use Rattle.code.specs.Letter.{letterPlace};
 ghost use Rattle.code.specs.Symbol.{symbolPlace};
 use crate::channel::Channel;
 use crate::code::Code;
 use crate::control::CodeField;
-use crate::control::Command;
 use crate::control::Control;
 use crate::control::ControlCode;
-use crate::control::Tab;
 use crate::letter::Letter;
 use crate::symbol::Symbol;
 use crate::tables::Found;
@@ -51,7 +49,7 @@ impl Character {
 impl Letter {
     // The letter's character.
     pub(crate) fn char(self) -> Character
-        ensures { λ r. ⌜ characterOutcome r ≡ pointIn standard (letterPlace self) ⌝ }
+        ensures { λ r. ⌜ characterOutcome r ≡ getD standard (letterPlace self) none ⌝ }
     {
         Character::Point(point_at(self.place()))
     }
@@ -60,7 +58,7 @@ impl Letter {
 impl Symbol {
     // The symbol's character; the transparent space has none.
     pub(crate) fn char(self) -> Character
-        ensures { λ r. ⌜ characterOutcome r ≡ pointIn symbols (symbolPlace self) ⌝ }
+        ensures { λ r. ⌜ characterOutcome r ≡ getD symbols (symbolPlace self) none ⌝ }
     {
         Character::from_entry(point_at(96 + self.place()))
     }
@@ -82,7 +80,8 @@ impl Code {
         }
     }
 
-    // The code of a character: a standard character, else a symbol of the channel.
+    // The code of a character: a standard character, else a symbol of the channel. The first entry of the table is NUL's,
+    // which has no character.
     pub fn from_char(c: u32, channel: Channel) -> FromChar
         ensures { λ r. ⌜ fromCharOutcome r ≡ fromChar c channel ⌝ }
     {
@@ -91,36 +90,25 @@ impl Code {
         }
         let table = code_table();
         match find_point(&table, c) {
-            Found::At(entry) => FromChar::Made(Code::at(entry)),
+            Found::At(entry) => FromChar::Made(Code::Letter(Letter::at((entry - 1) as u8))),
             Found::Absent => Code::symbol_from_char(c, channel),
         }
     }
 
-    // The code of a character that is a symbol.
+    // The code of a character that is a symbol. The symbols come first in the table; the commands and tabs after them have
+    // no character.
     pub(crate) fn symbol_from_char(c: u32, channel: Channel) -> FromChar
         requires { ⌜ (c ≡ 0 → ⊥) ⌝ }
-        ensures { λ r. ⌜ fromCharOutcome r ≡ symbolCode channel (position c symbols) ⌝ }
+        ensures { λ r. ⌜ fromCharOutcome r ≡ symbolCode channel (placeOf c symbols) ⌝ }
     {
         let table = control_table();
         match find_point(&table, c) {
             Found::At(entry) => FromChar::Made(Code::Control(ControlCode {
                 field: CodeField::Absent,
                 channel: channel,
-                control: Control::at(entry),
+                control: Control::Symbol(Symbol::at(entry as u8)),
             })),
             Found::Absent => FromChar::NoSuchCharacter,
-        }
-    }
-
-    // The code at an entry of the table of characters.
-    pub(crate) fn at(entry: usize) -> Code
-        requires { ⌜ entry < 97 ⌝ }
-        ensures { λ r. ⌜ r ≡ codeAt entry ⌝ }
-    {
-        if entry == 0 {
-            Code::Nul
-        } else {
-            Code::Letter(Letter::at((entry - 1) as u8))
         }
     }
 }
@@ -137,20 +125,6 @@ impl Control {
             Control::Tab(_) => Character::Absent,
             Control::Preamble(_) => Character::Absent,
             Control::Unknown(_, _) => Character::Absent,
-        }
-    }
-
-    // The control at an entry of the control table.
-    pub(crate) fn at(entry: usize) -> Control
-        requires { ⌜ entry < 99 ⌝ }
-        ensures { λ r. ⌜ r ≡ controlAt entry ⌝ }
-    {
-        if entry < 80 {
-            Control::Symbol(Symbol::at(entry as u8))
-        } else if entry < 96 {
-            Control::Command(Command::at((entry - 80) as u8))
-        } else {
-            Control::Tab(Tab::at((entry - 96) as u8))
         }
     }
 }

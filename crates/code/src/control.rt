@@ -3,7 +3,7 @@ ghost use mathlib.Core.Path.{_≡_};
 ghost use Prim.Native.Nat.{_<_};
 ghost use Rattle.code.specs.Control.{commandAt, commandNumber, tabAt, tabNumber, tabOffset, tabOffsetOutcome};
 ghost use Rattle.code.specs.Control.{controlCode, channelIn, fieldIn, controlIn};
-ghost use Rattle.code.specs.Read.{within};
+ghost use Rattle.code.specs.Range.{within};
 use crate::channel::Channel;
 use crate::channel::Field;
 use crate::midrow::MidRow;

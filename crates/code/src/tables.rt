@@ -5,7 +5,8 @@ ghost use mathlib.Core.Path.{_≡_};
 ghost use Rattle.code.specs.Position.{position};
 ghost use Prim.Native.Nat.{_<_};
 ghost use lib.ListN.{getD};
-ghost use Rattle.code.specs.Tables.{allPoints, codeEntries, controlEntries, pointOf, foundAt, prefixAt};
+ghost use Rattle.code.specs.Preamble.{rowPrefix};
+ghost use Rattle.code.specs.Tables.{allPoints, codeEntries, controlEntries, pointOf, foundAt};
 use crate::pair::Pair;
 
 // The pair of each row's white preamble, in row order 0 to 14: the style and the underline are added to the second byte.
@@ -267,7 +268,7 @@ pub(crate) fn find_point(table: &[u32], point: u32) -> Found
 
 // The prefix of a row. A row above 14 has none.
 pub(crate) fn row_prefix(row: u8) -> Pair
-    ensures { λ r. ⌜ r ≡ prefixAt row ⌝ }
+    ensures { λ r. ⌜ r ≡ rowPrefix row ⌝ }
 {
     if 15 <= row {
         return Pair(0, 0);

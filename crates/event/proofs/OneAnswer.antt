@@ -10,7 +10,6 @@ use Rattle.event.specs.Mode.{fromCommandOutcome, rollupRowsOutcome}
 use Rattle.event.specs.declared.id.FromValue.the-variants as value
 use Rattle.event.specs.declared.into_code.IntoCode.the-variants as into
 use Rattle.event.specs.declared.mode.FromCommand.the-variants as from
-use Rattle.event.specs.declared.mode.RollupRows.{RollupRows}
 use Rattle.event.specs.declared.mode.RollupRows.the-variants as rows
 
 pub from-value-injective : Injective fromValueOutcome

@@ -1,13 +1,12 @@
 -- The caption services and refusal 6, from 01: 1 and 2 are channels one and two of field one, 3 and 4 of field two.
-use Prim.Native.Nat.{ℕ}
+use Prim.Native.Nat.{ℕ, _-_}
 use mathlib.Core.Bool.{cond}
 use mathlib.Core.List.{[], _∷_}
-use mathlib.Core.Option.{Option, none, some}
 use lib.IntN.{ℤ, pos, negsuc}
 use lib.ListN.{getD}
 use Rattle.code.specs.Channel.{channelOne, channelTwo, fieldOne, fieldTwo}
 use Rattle.code.specs.Outcome.{Outcome, answer, refused}
-use Rattle.code.specs.Position.{position}
+use Rattle.code.specs.Range.{within}
 use Rattle.code.specs.declared.channel.Channel.{Channel}
 use Rattle.code.specs.declared.channel.Field.{Field}
 use Rattle.event.specs.declared.id.FromValue.{FromValue}
@@ -30,13 +29,12 @@ channelOfId CC2 = channelTwo
 channelOfId CC3 = channelOne
 channelOfId CC4 = channelTwo
 
--- 6: a value outside 1 to 4
-abbrev pub fromPlace : Option ℕ → Outcome Id
-fromPlace none = refused 6
-fromPlace (some i) = answer (getD (CC1 ∷ CC2 ∷ CC3 ∷ CC4 ∷ []) i CC1)
+-- the services by their numbers, from 1; 6: a value outside 1 to 4
+abbrev pub serviceAt : ℕ → Id
+serviceAt n = getD (CC1 ∷ CC2 ∷ CC3 ∷ CC4 ∷ []) (n - 1) CC1
 
 abbrev pub fromValue : ℤ → Outcome Id
-fromValue (pos n) = fromPlace (position n (1 ∷ 2 ∷ 3 ∷ 4 ∷ []))
+fromValue (pos n) = cond (within 1 4 n) (answer (serviceAt n)) (refused 6)
 fromValue (negsuc n) = refused 6
 
 abbrev pub fromValueOutcome : FromValue → Outcome Id

@@ -3,11 +3,10 @@
 -- other than 1, 2, 3, and 5 for a character that no code has, the first looked up before the second. A refusal gives no
 -- code at all.
 use Prim.Native.Nat.{ℕ}
-use mathlib.Core.Bool.{cond}
-use lib.Dec.{leb}
 use Rattle.code.specs.Code.{fromChar}
 use Rattle.code.specs.Control.{controlCode, tabOffset}
 use Rattle.code.specs.Outcome.{Outcome, answer, refused}
+use Rattle.code.specs.Preamble.{inRow}
 use Rattle.code.specs.declared.channel.Channel.{Channel}
 use Rattle.code.specs.declared.channel.Field.{Field}
 use Rattle.code.specs.declared.character.Character.{Character}
@@ -49,7 +48,7 @@ abbrev pub tabCodes : Field → Channel → ℕ → Turned
 tabCodes f ch n = orRefusal f ch (tabOffset n)
 
 abbrev pub preambleCodes : Field → Channel → PreambleAddressCode → Turned
-preambleCodes f ch p = cond (leb (p .row) 14) (alone f ch (control.Preamble p)) (refusal 3)
+preambleCodes f ch p = orRefusal f ch (inRow (p .row) (control.Preamble p))
 
 -- a character's code, NUL for none
 abbrev pub characterCode : Character → Channel → Outcome Code

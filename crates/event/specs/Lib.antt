@@ -2,3 +2,4 @@ pub mod Mode
 pub mod Id
 pub mod Event
 pub mod IntoCode
+pub mod Services

@@ -13,7 +13,7 @@ use borrow.Author.Tests.{leb-false, le-leb, lt-leb, ltb-false, ltb-true}
 use lib.Dec.{leb, ltb}
 use lib.ListN.{drop, length, take, take-append-drop}
 use Rattle.code.specs.Outcome.{Outcome, answer, refused}
-use Rattle.code.specs.Write.{pair}
+use Rattle.code.specs.Pair.{pair}
 use Rattle.event.specs.declared.event.Cea608.{Cea608}
 use Rattle.lines.proofs.Bounds.{ending-short, last-line-short, nine-short, pair-fits, ten-short}
 use Rattle.lines.proofs.Memory.{Begun, all-said, empty-begun, waiting-is, written-and-waiting}

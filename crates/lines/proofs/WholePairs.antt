@@ -10,7 +10,7 @@ use borrow.Author.Tests.{le-ltb, lt-leb}
 use lib.Dec.{ltb}
 use lib.ListN.{drop, getD, length, take}
 use lib.Seq.{take-all}
-use Rattle.code.specs.Write.{pair}
+use Rattle.code.specs.Pair.{pair}
 use Rattle.lines.proofs.Bounds.{pair-fits}
 use Rattle.lines.proofs.Memory.{all-said, empty-begun}
 use Rattle.lines.proofs.Puts.{all-places, puts-length}

@@ -6,7 +6,7 @@ use mathlib.Core.List.{List, [], _∷_, _++_}
 use mathlib.Core.Option.{Option}
 use lib.Dec.{leb}
 use Rattle.code.specs.Outcome.{Outcome, answer, refused}
-use Rattle.code.specs.Write.{pair}
+use Rattle.code.specs.Pair.{pair}
 use Rattle.event.specs.declared.event.Cea608.{Cea608}
 use Rattle.lines.specs.Words.{lastLine, line, lineOf, refusedWords}
 use Rattle.receiver.specs.Receiver.{fresh, step}

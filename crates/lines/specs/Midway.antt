@@ -5,7 +5,7 @@ use mathlib.Core.Bool.{false}
 use mathlib.Core.List.{List, _++_}
 use mathlib.Core.Path.{_≡_}
 use lib.ListN.{drop, getD, length, take}
-use Rattle.code.specs.Write.{pair}
+use Rattle.code.specs.Pair.{pair}
 use Rattle.lines.specs.Line.{emptyLine, over}
 use Rattle.lines.specs.Listing.{mostPairs}
 use Rattle.lines.specs.Pieces.{Piece, Read, betweenPairs, counted, pieceOf}

@@ -7,7 +7,7 @@ use mathlib.Core.Option.{Option}
 use lib.Dec.{leb, ltb}
 use lib.ListN.{length}
 use Rattle.code.specs.Outcome.{Outcome, answer, refused}
-use Rattle.code.specs.Write.{pair}
+use Rattle.code.specs.Pair.{pair}
 use Rattle.event.specs.declared.event.Cea608.{Cea608}
 use Rattle.lines.specs.Line.{emptyLine, hasMore, over, says, unwritten, waiting, writes}
 use Rattle.lines.specs.Listing.{mostPairs}

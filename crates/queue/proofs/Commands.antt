@@ -18,7 +18,8 @@ use Rattle.code.specs.Code.{byteLen}
 use Rattle.code.specs.Letter.{letterAt}
 use Rattle.code.specs.Outcome.{Outcome, answer, refused}
 use Rattle.code.specs.Read.{isCommandPair, readPair}
-use Rattle.code.specs.Write.{inDomain, isCommandCode, isCommandControl, pair, writeCode}
+use Rattle.code.specs.Pair.{pair}
+use Rattle.code.specs.Write.{inDomain, isCommandCode, isCommandControl, writeCode}
 use Rattle.code.specs.declared.code.Code.{Code}
 use Rattle.code.specs.declared.code.Code.the-variants as code
 use Rattle.code.specs.declared.color.Color.the-variants.{White}

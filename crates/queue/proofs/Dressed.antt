@@ -14,7 +14,8 @@ use Rattle.code.specs.Channel.{channelOne, channelTwo}
 use Rattle.code.specs.Code.{byteLen}
 use Rattle.code.specs.Letter.{letterAt}
 use Rattle.code.specs.Outcome.{Outcome, answer, refused}
-use Rattle.code.specs.Write.{inDomain, isCommandCode, isCommandControl, pair, writeCode}
+use Rattle.code.specs.Pair.{pair}
+use Rattle.code.specs.Write.{inDomain, isCommandCode, isCommandControl, writeCode}
 use Rattle.code.specs.declared.channel.Channel.{Channel}
 use Rattle.code.specs.declared.code.Code.{Code}
 use Rattle.code.specs.declared.code.Code.the-variants as code

@@ -12,16 +12,16 @@ use Rattle.code.proofs.Agree.{agree, agree-from, agree-grid}
 use Rattle.code.proofs.Both.{both-left, both-right}
 use Rattle.code.proofs.KindByKind.{control-domain, control-written, letter-domain, letter-written, nul-domain, unknown-domain, unknown-written}
 use Rattle.code.proofs.MeantBack.{command-meant, command-pair, isPairOfControl, mid-row-meant, mid-row-pair, preamble-meant, preamble-pair, symbol-meant, symbol-pair, tab-meant, tab-pair}
-use Rattle.code.proofs.Numbers.{column-back, letter-row-back, letter-small}
+use Rattle.code.proofs.Numbers.{letter-again, letter-small}
 use Rattle.code.specs.Channel.{channelOne, channelTwo, fieldOne, fieldTwo}
 use Rattle.code.specs.Code.{controlNeedsBackspace, needsBackspace}
 use Rattle.code.specs.Control.{commandNumber, tabNumber}
-use Rattle.code.specs.Column.{columnAt, columnNumber}
-use Rattle.code.specs.Letter.{letterAt, letterPlace, letterRowAt, letterRowNumber}
+use Rattle.code.specs.Letter.{letterAt, letterPlace}
 use Rattle.code.specs.Outcome.{Outcome, answer, refused}
 use Rattle.code.specs.Parity.{withParity}
 use Rattle.code.specs.Read.{isCommand, meaning, orUnknown}
-use Rattle.code.specs.Write.{asSingle, controlBytes, controlInDomain, midRowBytes, onLine, pair, preambleBytes, symbolBytes, unless, writeCode}
+use Rattle.code.specs.Pair.{pair}
+use Rattle.code.specs.Write.{asSingle, controlBytes, controlInDomain, midRowBytes, onLine, preambleBytes, symbolBytes, ofSevenBits, writeCode}
 use Rattle.code.specs.declared.channel.Channel.{Channel}
 use Rattle.code.specs.declared.code.Code.{Code}
 use Rattle.code.specs.declared.code.Code.the-variants as code
@@ -30,9 +30,7 @@ use Rattle.code.specs.declared.control.CodeField.the-variants.{Of, Absent}
 use Rattle.code.specs.declared.control.Control.{Control}
 use Rattle.code.specs.declared.control.Control.the-variants as control
 use Rattle.code.specs.declared.control.ControlCode.{ControlCode}
-use Rattle.code.specs.declared.column.Column.{Column}
 use Rattle.code.specs.declared.letter.Letter.{Letter}
-use Rattle.code.specs.declared.letter.LetterRow.{LetterRow}
 use Rattle.code.specs.declared.pair.Pair.{Pair}
 use Rattle.code.specs.declared.preamble.PreambleAddressCode.{PreambleAddressCode}
 use Rattle.queue.specs.Number.{bytesNumber, channelOfNumber, channelNumber, codeOf, controlNumber, controlOf, fieldOfNumber, fieldNumber, firstIn, numberIn, numberOf, secondIn, singleOf}
@@ -116,7 +114,7 @@ pub letter-may : (l : Letter) → queueable (code.Letter l) ≡ answer tt
 unfolding queueable
 letter-may l = ap (unlessDressed false) (letter-domain l)
 
-pub unknown-may : (b : ℕ) → queueable (code.Unknown b) ≡ unlessDressed false (unless (ltb b 0x80) 2)
+pub unknown-may : (b : ℕ) → queueable (code.Unknown b) ≡ unlessDressed false (ofSevenBits (ltb b 0x80) tt)
 unfolding queueable
 unknown-may b = ap (unlessDressed false) (unknown-domain b)
 
@@ -127,7 +125,7 @@ control-may c = ap (unlessDressed (isDressedControl (c .control))) (control-doma
 single-may : (t : Bool) (l : Letter) (b : ℕ) → b < 128 → mayWait (cond t (code.Letter l) (code.Unknown b)) ≡ true
 single-may true l b less = ap isAnswer (letter-may l)
 single-may false l b less =
-    ap isAnswer (unknown-may b) ∙ ap (λ (t : Bool). isAnswer (unlessDressed false (unless t 2))) (lt-ltb b 0x80 less)
+    ap isAnswer (unknown-may b) ∙ ap (λ (t : Bool). isAnswer (unlessDressed false (ofSevenBits t tt))) (lt-ltb b 0x80 less)
 
 may-by : (t : Bool) (c : ControlCode) (s : Code) → mayWait s ≡ true → controlTested (c .control) ≡ answer tt → mayWait (cond t s (code.Control c)) ≡ true
 may-by true c s single command = single
@@ -286,13 +284,13 @@ meant-back f ch c p fits means =
     by-digits f ch 0 (p .0) (p .1) (fieldNumber f + channelNumber ch + bytesNumber p) (omega arith) from (omega arith) second (omega arith)
     ∙ ap {B = Code} (λ (o : Option Control). code.Control (record { field = f; channel = ch; control = orUnknown (p .0) (p .1) o })) means
 
-preamble-back : (f : CodeField) (ch : Channel) (p : PreambleAddressCode) (t : Bool) → leb (p .row) 14 ≡ t → isAnswer (unlessDressed false (unless t 3)) ≡ true → codeOf (fieldNumber f + channelNumber ch + numberIn (cond t (answer (preambleBytes p)) (refused 3))) ≡ code.Control (record { field = f; channel = ch; control = control.Preamble p })
+preamble-back : (f : CodeField) (ch : Channel) (p : PreambleAddressCode) (t : Bool) → leb (p .row) 14 ≡ t → isAnswer (unlessDressed false (cond t (answer tt) (refused 3))) ≡ true → codeOf (fieldNumber f + channelNumber ch + numberIn (cond t (answer (preambleBytes p)) (refused 3))) ≡ code.Control (record { field = f; channel = ch; control = control.Preamble p })
 preamble-back f ch p true e may =
     let inside : p .row < 15 = omega (arith, leb-true (p .row) 14 e) in
     meant-back f ch (control.Preamble p) (preambleBytes p) (preamble-pair p inside) (preamble-meant p inside)
 preamble-back f ch p false e may = absurd (true≢false (sym may))
 
-unknown-back : (f : CodeField) (ch : Channel) (a b : ℕ) (t u : Bool) → (ltb a 0x80 && ltb b 0x80) ≡ t → isCommand a ≡ u → isAnswer (unlessDressed (not u) (unless t 2)) ≡ true → codeOf (fieldNumber f + channelNumber ch + (0x800 + numberIn (cond t (answer (pair a b)) (refused 2)))) ≡ code.Control (record { field = f; channel = ch; control = control.Unknown a b })
+unknown-back : (f : CodeField) (ch : Channel) (a b : ℕ) (t u : Bool) → (ltb a 0x80 && ltb b 0x80) ≡ t → isCommand a ≡ u → isAnswer (unlessDressed (not u) (ofSevenBits t tt)) ≡ true → codeOf (fieldNumber f + channelNumber ch + (0x800 + numberIn (cond t (answer (pair a b)) (refused 2)))) ≡ code.Control (record { field = f; channel = ch; control = control.Unknown a b })
 unknown-back f ch a b true true e first may =
     let from = leb-true 0x10 a (both-left (leb 0x10 a) (leb a 0x1F) first) in
     let to = leb-true a 0x1F (both-right (leb 0x10 a) (leb a 0x1F) first) in
@@ -310,13 +308,6 @@ control-back f ch (control.Preamble p) may = preamble-back f ch p (leb (p .row) 
 control-back f ch (control.Unknown a b) may = unknown-back f ch a b (ltb a 0x80 && ltb b 0x80) (isCommand a) refl refl may
 
 -- single codes
-letter-again : (l : Letter) → letterAt (letterPlace l) ≡ l
-letter-again l =
-    let row : letterPlace l / 16 ≡ letterRowNumber (l .row) = omega (arith, column-back (l .column) .0) in
-    let column : letterPlace l % 16 ≡ columnNumber (l .column) = omega (arith, column-back (l .column) .0) in
-    ap₂ {C = Letter} (λ (r : LetterRow) (c : Column). record { row = r; column = c })
-    (ap letterRowAt row ∙ letter-row-back (l .row) .1) (ap columnAt column ∙ column-back (l .column) .1)
-
 letter-back : (l : Letter) → codeOf (0x8020 + letterPlace l) ≡ code.Letter l
 letter-back l =
     let n = 0x8020 + letterPlace l in
@@ -339,7 +330,7 @@ byte-back b less =
     let second : secondIn n ≡ b = omega arith in
     as-single n (omega arith) ∙ ap₂ singleOf known second
 
-byte-by : (b : ℕ) (t : Bool) → ltb b 0x80 ≡ t → isAnswer (unlessDressed false (unless t 2)) ≡ true → codeOf (0x8080 + b) ≡ code.Unknown b
+byte-by : (b : ℕ) (t : Bool) → ltb b 0x80 ≡ t → isAnswer (unlessDressed false (ofSevenBits t tt)) ≡ true → codeOf (0x8080 + b) ≡ code.Unknown b
 byte-by b true e may = byte-back b (ltb-true b 0x80 e)
 byte-by b false e may = absurd (true≢false (sym may))
 

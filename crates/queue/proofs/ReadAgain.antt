@@ -15,7 +15,8 @@ use Rattle.code.proofs.Written.{data-kept, domain-is-written, even-is-refused, 
 use Rattle.code.specs.Outcome.{Outcome, answer, refused}
 use Rattle.code.specs.Parity.{isOdd, stripped, withParity}
 use Rattle.code.specs.Read.{codesOf, commandOf, isCommand, readPair, single}
-use Rattle.code.specs.Write.{isCommandCode, pair, writeCode}
+use Rattle.code.specs.Pair.{pair}
+use Rattle.code.specs.Write.{isCommandCode, writeCode}
 use Rattle.code.specs.declared.code.Code.{Code}
 use Rattle.code.specs.declared.code.Code.the-variants as code
 use Rattle.code.specs.declared.pair.Pair.{Pair}

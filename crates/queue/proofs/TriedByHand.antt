@@ -8,7 +8,8 @@ use lib.Count.{ones, onesIn}
 use lib.ListN.{replicate}
 use Rattle.code.specs.Letter.{letterAt}
 use Rattle.code.specs.Outcome.{answer, refused}
-use Rattle.code.specs.Write.{inDomain, pair, writeCode}
+use Rattle.code.specs.Pair.{pair}
+use Rattle.code.specs.Write.{inDomain, writeCode}
 use Rattle.code.specs.declared.code.Code.{Code}
 use Rattle.code.specs.declared.code.Code.the-variants as code
 use Rattle.queue.proofs.FirstInFirstOut.{ring-answers-as-the-list}

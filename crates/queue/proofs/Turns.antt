@@ -8,7 +8,7 @@ use Prim.Native.Nat.{ℕ, zero, suc, _+_, _-_, _≤_, _<_}
 use native.Mathlib.Omega.{arith}
 use lib.ListN.{length}
 use Rattle.code.specs.Code.{needsBackspace}
-use Rattle.code.specs.Write.{pair}
+use Rattle.code.specs.Pair.{pair}
 use Rattle.code.specs.declared.code.Code.{Code}
 use Rattle.code.specs.declared.pair.Pair.{Pair}
 use Rattle.queue.proofs.Places.{how-many}

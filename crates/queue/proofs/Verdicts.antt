@@ -12,8 +12,8 @@ use Rattle.code.proofs.OneAnswer.{clash, same}
 use Rattle.code.specs.Letter.{letterPlace}
 use Rattle.code.specs.Outcome.{Outcome, answer, refused}
 use Rattle.code.specs.Read.{isCommand}
-use Rattle.code.specs.Write.{pair, preambleBytes, rowBytes, unless}
-use Rattle.code.specs.declared.code.Code.{Code}
+use Rattle.code.specs.Pair.{pair}
+use Rattle.code.specs.Write.{preambleBytes, rowBytes, ofSevenBits}
 use Rattle.code.specs.declared.code.Code.the-variants as code
 use Rattle.code.specs.declared.control.CodeField.{CodeField}
 use Rattle.code.specs.declared.control.CodeField.the-variants.{Of, Absent}
@@ -32,7 +32,7 @@ pub as-tested : (whose : ℕ) (c : Control) (o : Outcome (Option ℕ)) → o ≡
 as-tested whose c o e = e ∙ ap (withNumber (some (whose + controlNumber c))) (sym (control-may (plain c)))
 
 -- a preamble
-row-by : (whose n : ℕ) (t : Bool) (b p : Pair) → answer b ≡ cond t (answer p) (refused 3) → n ≡ bytesNumber b → answer (some (whose + n)) ≡ withNumber (some (whose + numberIn (cond t (answer p) (refused 3)))) (unlessDressed false (unless t 3))
+row-by : (whose n : ℕ) (t : Bool) (b p : Pair) → answer b ≡ cond t (answer p) (refused 3) → n ≡ bytesNumber b → answer (some (whose + n)) ≡ withNumber (some (whose + numberIn (cond t (answer p) (refused 3)))) (unlessDressed false (cond t (answer tt) (refused 3)))
 row-by whose n true b p e number = ap (λ (k : ℕ). answer (some (whose + k))) (number ∙ ap bytesNumber (same e))
 row-by whose n false b p e number = absurd (clash e)
 
@@ -40,7 +40,7 @@ pub row-inside : (whose n : ℕ) (p : PreambleAddressCode) (b : Pair) → answer
 row-inside whose n p b e number =
     as-tested whose (control.Preamble p) _ (row-by whose n (leb (p .row) 14) b (preambleBytes p) e number)
 
-refused-by : (n : Option ℕ) (t : Bool) (p : Pair) → refused 3 ≡ cond t (answer p) (refused 3) → refused 3 ≡ withNumber n (unlessDressed false (unless t 3))
+refused-by : (n : Option ℕ) (t : Bool) (p : Pair) → refused 3 ≡ cond t (answer p) (refused 3) → refused 3 ≡ withNumber n (unlessDressed false (cond t (answer tt) (refused 3)))
 refused-by n true p e = absurd (clash (sym e))
 refused-by n false p e = refl
 
@@ -97,10 +97,10 @@ letter-passes l n e =
 
 pub byte-passes : (b : ℕ) → b < 128 → answer (some (0x8080 + b)) ≡ numbered (code.Unknown b)
 byte-passes b less =
-    sym (ap (λ (t : Bool). withNumber (some (0x8080 + b)) (unlessDressed false (unless t 2))) (lt-ltb b 0x80 less))
+    sym (ap (λ (t : Bool). withNumber (some (0x8080 + b)) (unlessDressed false (ofSevenBits t tt))) (lt-ltb b 0x80 less))
     ∙ sym (ap (withNumber (some (0x8080 + b))) (unknown-may b))
 
 pub byte-refused : (b : ℕ) → 128 ≤ b → refused 2 ≡ numbered (code.Unknown b)
 byte-refused b more =
-    sym (ap (λ (t : Bool). withNumber (some (0x8080 + b)) (unlessDressed false (unless t 2))) (le-ltb b 0x80 more))
+    sym (ap (λ (t : Bool). withNumber (some (0x8080 + b)) (unlessDressed false (ofSevenBits t tt))) (le-ltb b 0x80 more))
     ∙ sym (ap (withNumber (some (0x8080 + b))) (unknown-may b))

@@ -10,7 +10,8 @@ use mathlib.Core.Path.{_≡_}
 use Rattle.code.specs.Code.{needsBackspace}
 use Rattle.code.specs.Outcome.{Outcome, answer, refused}
 use Rattle.code.specs.Read.{isCommand}
-use Rattle.code.specs.Write.{pair, writeCode}
+use Rattle.code.specs.Pair.{pair}
+use Rattle.code.specs.Write.{writeCode}
 use Rattle.code.specs.declared.code.Code.{Code}
 use Rattle.code.specs.declared.code.Code.the-variants as code
 use Rattle.code.specs.declared.pair.Pair.{Pair}

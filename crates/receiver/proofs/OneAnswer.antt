@@ -6,7 +6,6 @@ use native.Mathlib.Omega.{arith}
 use Rattle.code.proofs.OneAnswer.{Injective, clash}
 use Rattle.receiver.specs.Heard.{heardOutcome}
 use Rattle.receiver.specs.Receiver.{decodedOutcome, Stepped}
-use Rattle.receiver.specs.declared.heard.Heard.{Heard}
 use Rattle.receiver.specs.declared.heard.Heard.the-variants as heard
 
 pub heard-injective : Injective heardOutcome

@@ -18,27 +18,41 @@ use Rattle.code.specs.declared.control.ControlCode.{ControlCode}
 use Rattle.code.specs.declared.symbol.Symbol.{Symbol}
 use Rattle.event.specs.declared.event.Cea608.{Cea608}
 use Rattle.event.specs.declared.event.Cea608.the-variants as event
-use Rattle.event.specs.declared.mode.Mode.the-variants.{PopOn, PaintOn, RollUp2, RollUp3, RollUp4}
+use Rattle.event.specs.Mode.{modeOf}
+use Rattle.event.specs.declared.mode.Mode.{Mode}
 use Rattle.receiver.specs.declared.heard.Heard.{Heard}
 use Rattle.receiver.specs.declared.heard.Heard.the-variants as heard
 
+-- six commands have an event of their own
+abbrev pub ownEvent : Channel → Command → Option Cea608
+ownEvent ch command.ResumeCaptionLoading = none
+ownEvent ch command.Backspace = some (event.Backspace ch)
+ownEvent ch command.AlarmOff = none
+ownEvent ch command.AlarmOn = none
+ownEvent ch command.DeleteToEndOfRow = some (event.DeleteToEndOfRow ch)
+ownEvent ch command.RollUp2 = none
+ownEvent ch command.RollUp3 = none
+ownEvent ch command.RollUp4 = none
+ownEvent ch command.FlashOn = none
+ownEvent ch command.ResumeDirectionCaptioning = none
+ownEvent ch command.TextRestart = none
+ownEvent ch command.ResumeTextDisplay = none
+ownEvent ch command.EraseDisplayedMemory = some (event.EraseDisplay ch)
+ownEvent ch command.CarriageReturn = some (event.CarriageReturn ch)
+ownEvent ch command.EraseNonDisplayedMemory = some (event.EraseNonDisplay ch)
+ownEvent ch command.EndOfCaption = some (event.EndOfCaption ch)
+
+-- any other begins a mode or gives nothing
+abbrev pub newMode : Channel → Option Mode → Option Cea608
+newMode ch none = none
+newMode ch (some m) = some (event.NewMode ch m)
+
+abbrev pub orNewMode : Channel → Option Cea608 → Option Mode → Option Cea608
+orNewMode ch (some e) m = some e
+orNewMode ch none m = newMode ch m
+
 abbrev pub commandEvent : Channel → Command → Option Cea608
-commandEvent ch command.ResumeCaptionLoading = some (event.NewMode ch PopOn)
-commandEvent ch command.Backspace = some (event.Backspace ch)
-commandEvent ch command.AlarmOff = none
-commandEvent ch command.AlarmOn = none
-commandEvent ch command.DeleteToEndOfRow = some (event.DeleteToEndOfRow ch)
-commandEvent ch command.RollUp2 = some (event.NewMode ch RollUp2)
-commandEvent ch command.RollUp3 = some (event.NewMode ch RollUp3)
-commandEvent ch command.RollUp4 = some (event.NewMode ch RollUp4)
-commandEvent ch command.FlashOn = none
-commandEvent ch command.ResumeDirectionCaptioning = some (event.NewMode ch PaintOn)
-commandEvent ch command.TextRestart = none
-commandEvent ch command.ResumeTextDisplay = none
-commandEvent ch command.EraseDisplayedMemory = some (event.EraseDisplay ch)
-commandEvent ch command.CarriageReturn = some (event.CarriageReturn ch)
-commandEvent ch command.EraseNonDisplayedMemory = some (event.EraseNonDisplay ch)
-commandEvent ch command.EndOfCaption = some (event.EndOfCaption ch)
+commandEvent ch c = orNewMode ch (ownEvent ch c) (modeOf c)
 
 -- a character that may be absent
 abbrev pub characterFrom : Option ℕ → Character

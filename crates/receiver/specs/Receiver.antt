@@ -3,7 +3,8 @@
 use mathlib.Core.Bool.{Bool, false, cond}
 use mathlib.Core.Option.{Option, none}
 use Rattle.code.specs.Outcome.{Outcome, answer, refused}
-use Rattle.code.specs.Read.{readPair, samePair}
+use Rattle.code.specs.Pair.{samePair}
+use Rattle.code.specs.Read.{readPair}
 use Rattle.code.specs.declared.code.Code.{Code}
 use Rattle.code.specs.declared.code.Code.the-variants as code
 use Rattle.code.specs.declared.control.CodeField.{CodeField}

@@ -1,6 +1,7 @@
 // The events that codes encode.
 ghost use mathlib.Core.Path.{_≡_};
-ghost use Rattle.receiver.specs.Heard.{heardOutcome, eventOf, commandEvent, symbolEvent, textEvent};
+ghost use Rattle.event.specs.Mode.{modeOf};
+ghost use Rattle.receiver.specs.Heard.{heardOutcome, eventOf, commandEvent, newMode, symbolEvent, textEvent};
 ghost use Rattle.code.specs.Outcome.{answer};
 use code::Channel;
 use code::Character;
@@ -10,6 +11,7 @@ use code::Control;
 use code::ControlCode;
 use code::Symbol;
 use event::Cea608;
+use event::FromCommand;
 use event::Mode;
 use event::Text;
 
@@ -54,27 +56,29 @@ pub(crate) fn symbol_event(channel: Channel, symbol: Symbol) -> Heard
     }
 }
 
-// A miscellaneous command; alarms, flash and the text commands give nothing.
+// A miscellaneous command. Six have an event of their own; any other begins a mode or, as alarms, flash and the text
+// commands, gives nothing.
 pub(crate) fn command_event(channel: Channel, command: Command) -> Heard
     ensures { λ r. ⌜ heardOutcome r ≡ answer (commandEvent channel command) ⌝ }
 {
     match command {
-        Command::ResumeCaptionLoading => Heard::Event(Cea608::NewMode(channel, Mode::PopOn)),
         Command::Backspace => Heard::Event(Cea608::Backspace(channel)),
-        Command::AlarmOff => Heard::Nothing,
-        Command::AlarmOn => Heard::Nothing,
         Command::DeleteToEndOfRow => Heard::Event(Cea608::DeleteToEndOfRow(channel)),
-        Command::RollUp2 => Heard::Event(Cea608::NewMode(channel, Mode::RollUp2)),
-        Command::RollUp3 => Heard::Event(Cea608::NewMode(channel, Mode::RollUp3)),
-        Command::RollUp4 => Heard::Event(Cea608::NewMode(channel, Mode::RollUp4)),
-        Command::FlashOn => Heard::Nothing,
-        Command::ResumeDirectionCaptioning => Heard::Event(Cea608::NewMode(channel, Mode::PaintOn)),
-        Command::TextRestart => Heard::Nothing,
-        Command::ResumeTextDisplay => Heard::Nothing,
         Command::EraseDisplayedMemory => Heard::Event(Cea608::EraseDisplay(channel)),
         Command::CarriageReturn => Heard::Event(Cea608::CarriageReturn(channel)),
         Command::EraseNonDisplayedMemory => Heard::Event(Cea608::EraseNonDisplay(channel)),
         Command::EndOfCaption => Heard::Event(Cea608::EndOfCaption(channel)),
+        _ => mode_event(channel, command),
+    }
+}
+
+// The mode that a command begins, if it begins one.
+fn mode_event(channel: Channel, command: Command) -> Heard
+    ensures { λ r. ⌜ heardOutcome r ≡ answer (newMode channel (modeOf command)) ⌝ }
+{
+    match Mode::from_command(command) {
+        FromCommand::Begins(mode) => Heard::Event(Cea608::NewMode(channel, mode)),
+        FromCommand::Absent => Heard::Nothing,
     }
 }
 

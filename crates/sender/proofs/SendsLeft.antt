@@ -14,7 +14,8 @@ use Rattle.code.proofs.Both.{both-left, both-right}
 use Rattle.code.specs.Code.{byteLen, needsBackspace}
 use Rattle.code.specs.Outcome.{answer}
 use Rattle.code.specs.Read.{isCommandPair}
-use Rattle.code.specs.Write.{isCommandCode, pair}
+use Rattle.code.specs.Pair.{pair}
+use Rattle.code.specs.Write.{isCommandCode}
 use Rattle.code.specs.declared.code.Code.{Code}
 use Rattle.code.specs.declared.pair.Pair.{Pair}
 use Rattle.queue.proofs.Commands.{code-says}

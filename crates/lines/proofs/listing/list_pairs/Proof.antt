@@ -9,7 +9,7 @@ use mathlib.Core.List.{List}
 use Prim.Native.Nat.{ℕ, _+_, _-_, _≤_}
 use native.Mathlib.Omega.{arith}
 use lib.ListN.{getD, length}
-use Rattle.code.specs.Write.{pair}
+use Rattle.code.specs.Pair.{pair}
 use Rattle.lines.proofs.WholePairs.{pair-taken, place-inside, same-memory}
 use Rattle.lines.specs.Midway.{HasPair, comesTo}
 use Rattle.lines.specs.Pieces.{betweenPairs, counted}

@@ -5,7 +5,7 @@ use mathlib.Core.Bool.{true, false}
 use mathlib.Core.Path.{_≡_, ap, sym, _∙_}
 use native.Mathlib.Omega.{arith}
 use Prim.Native.Nat.{ℕ}
-use Rattle.code.specs.Write.{pair}
+use Rattle.code.specs.Pair.{pair}
 use Rattle.queue.proofs.Numbered.{command-below, single-from}
 use Rattle.queue.proofs.Turns.{command-turns, last-turns, single-turns}
 use Rattle.queue.specs.Number.{codeOf}

@@ -2,23 +2,23 @@
 -- is the symbols' search.
 -- Assumes nothing.
 use borrow.Author.Needs.{needs}
-use borrow.Author.Tests.{eq-eqb}
-use Prim.Native.Nat.{ℕ}
+use Prim.Native.Nat.{ℕ, _-_, _<_}
 use mathlib.Core.List.{List, map}
+use mathlib.Core.Option.{some}
 use mathlib.Core.Path.{_≡_, ap, sym, _∙_}
-use Rattle.code.proofs.First.{first-inside, found-none, found-some}
-use Rattle.code.proofs.Lookup.{found-letter, found-no-letter}
-use Rattle.code.specs.Characters.{standard}
-use Rattle.code.specs.Code.{fromChar}
+use native.Mathlib.Omega.{arith}
+use Rattle.code.proofs.First.{found-none, found-some}
+use Rattle.code.proofs.Lookup.{found-letter, found-no-letter, letter-inside, zero-has-no-code}
 use Rattle.code.specs.Outcome.{answer}
 use Rattle.code.specs.Position.{position}
 use Rattle.code.specs.Tables.{codeEntries, foundAt, pointOf}
+use Rattle.code.specs.declared.code.Code.the-variants as code
+use Rattle.code.specs.declared.letter.Letter.{Letter}
 use Rattle.code.proofs.code.Code.from_char.Statement.{statement}
 use Rattle.code.proofs.code.Code.from_char.Tie as tie
 
 returns : tie.Need-returns
-unfolding fromChar
-returns c = simp (eq-eqb _ _ (c .if1 .taken))
+returns c = rw (c .if1 .taken) (zero-has-no-code _)
 
 code-table-requires : tie.Need-code-table-requires
 code-table-requires c κs = search needs
@@ -36,12 +36,26 @@ enum-known-entry c = search needs
 found : (c : tie.After-find-point) → c .find-point .result ≡ foundAt (position (c .before .before .before .before .args .c) (map pointOf codeEntries))
 found c = c .find-point .ensures ∙ ap (λ (t : List ℕ). foundAt (position (c .before .before .before .before .args .c) (map pointOf t))) (c .before .before .code-table .ensures)
 
+-- where it finds the character
+abbrev asked : tie.After-known-told → ℕ
+asked c = c .before .before .before .before .before .before .before .args .c
+
+place : (c : tie.After-known-told) → position (asked c) (map pointOf codeEntries) ≡ some (c .before .entry .given .0 .0)
+place c = found-some (position (asked c) (map pointOf codeEntries)) _ (sym (found (c .before .before .before)) ∙ c .before .entry .given .1)
+
+inside : (c : tie.After-known-told) → (0 < c .before .entry .given .0 .0) × (c .before .entry .given .0 .0 - 1 < 96)
+inside c =
+    letter-inside (asked c) (c .before .before .before .before .before .before .before .args .channel)
+    (c .before .before .before .before .before .before .if1 .left) _ (place c)
+
+sub-at : tie.Need-sub-at
+sub-at c = let within = inside c in omega arith
+
+cast-at : tie.Need-cast-at
+cast-at c = let within = inside c in omega arith
+
 at-requires : tie.Need-at-requires
-unfolding codeEntries standard
-at-requires c κs =
-    let x = c .before .before .before .before .before .before .before .args .c in
-    first-inside x (map pointOf codeEntries) _
-    (found-some (position x (map pointOf codeEntries)) _ (sym (found (c .before .before .before)) ∙ c .before .entry .given .1))
+at-requires c κs = inside c .1
 
 enum-told : tie.Need-enum-told
 enum-told c = search needs
@@ -50,18 +64,17 @@ symbol-from-char-requires : tie.Need-symbol-from-char-requires
 symbol-from-char-requires c κs = search needs
 
 returns-2 : tie.Need-returns-2
-unfolding codeEntries standard
 returns-2 c =
-    let x = c .before .before .before .before .before .before .before .before .args .c in
-    let place = found-some (position x (map pointOf codeEntries)) _ (sym (found (c .before .before .before .before)) ∙ c .before .before .entry .given .1) in
-    ap answer (c .at .ensures) ∙ found-letter x (c .before .before .before .before .before .before .before .before .args .channel) _ (c .before .before .before .before .before .before .before .if1 .left) place
+    let start = c .before .before .before .before .before .before .before .before in
+    ap (λ (l : Letter). answer (code.Letter l)) (c .at .ensures)
+    ∙ found-letter (start .args .c) (start .args .channel) (c .before .before .before .before .before .before .before .if1 .left) _ (place (c .before))
 
 returns-3 : tie.Need-returns-3
-unfolding codeEntries standard
 returns-3 c =
-    let x = c .before .before .before .before .before .before .before .args .c in
-    let place = found-none (position x (map pointOf codeEntries)) (sym (found (c .before .before .before)) ∙ c .before .enum-told .given .1) in
-    c .symbol-from-char .ensures ∙ found-no-letter x (c .before .before .before .before .before .before .before .args .channel) (c .before .before .before .before .before .before .if1 .left) place
+    let start = c .before .before .before .before .before .before .before in
+    let x = start .args .c in
+    let nowhere = found-none (position x (map pointOf codeEntries)) (sym (found (c .before .before .before)) ∙ c .before .enum-told .given .1) in
+    c .symbol-from-char .ensures ∙ found-no-letter x (start .args .channel) (c .before .before .before .before .before .before .if1 .left) nowhere
 
 pub from-char-spec : {M : Type 1} → statement M
 from-char-spec =
@@ -72,6 +85,8 @@ from-char-spec =
     slice-aggregate-find-point
     find-point-requires
     enum-known-entry
+    sub-at
+    cast-at
     at-requires
     enum-told
     symbol-from-char-requires

@@ -1,10 +1,10 @@
--- `code::control::Control::parse_preamble` meets its contract: the first byte's row, or the one after it, is the row of the prefix (`decided-is`).
+-- `code::control::Control::parse_preamble` meets its contract: the first byte's row, or the one after it, is the row of the prefix (`row-told`).
 -- Assumes nothing.
 use Prim.Native.Nat.{_%_}
 use borrow.Author.Needs.{needs}
-use borrow.Author.Tests.{eq-eqb, ne-eqb, lt-ltb, le-ltb, le-leb}
+use borrow.Author.Tests.{eq-eqb, ne-eqb, lt-ltb, le-ltb}
 use native.Mathlib.Omega.{arith}
-use Rattle.code.proofs.Meaning.{decided-is, first-row-small}
+use Rattle.code.proofs.Meaning.{first-row-small, row-told}
 use Rattle.code.proofs.control.Control.parse_preamble.Statement.{statement}
 use Rattle.code.proofs.control.Control.parse_preamble.Tie as tie
 
@@ -15,16 +15,24 @@ at-requires : tie.Need-at-requires
 at-requires c κs = search needs
 
 returns : tie.Need-returns
-returns c = simp (← decided-is _ _ (c .before .before .before .pre .0) (c .before .before .before .pre .1) (c .before .before .before .pre .3), le-leb _ _ (c .before .before .before .pre .2), lt-ltb _ _ (c .if1 .taken), c .before .before .first-row .ensures, c .before .at .ensures)
+returns c =
+    let pre = c .before .before .before .pre in
+    row-told _ _ _ (pre .0) (pre .1) (pre .2) (pre .3)
+    (simp (lt-ltb _ _ (c .if1 .taken), c .before .before .first-row .ensures, c .before .at .ensures))
 
 returns-2 : tie.Need-returns-2
-returns-2 c = simp (← decided-is _ _ (c .before .before .before .before .pre .0) (c .before .before .before .before .pre .1) (c .before .before .before .before .pre .3), le-leb _ _ (c .before .before .before .before .pre .2), le-ltb _ _ (c .before .if1 .left), eq-eqb _ _ (c .if2 .taken))
+returns-2 c =
+    let pre = c .before .before .before .before .pre in
+    row-told _ _ _ (pre .0) (pre .1) (pre .2) (pre .3) (simp (le-ltb _ _ (c .before .if1 .left), eq-eqb _ _ (c .if2 .taken)))
 
 add-t7 : tie.Need-add-t7
 add-t7 c = omega (arith, first-row-small (c .before .before .before .before .args .prefix % 8) (omega arith), c .before .before .before .first-row .ensures)
 
 returns-3 : tie.Need-returns-3
-returns-3 c = simp (← decided-is _ _ (c .before .before .before .before .pre .0) (c .before .before .before .before .pre .1) (c .before .before .before .before .pre .3), le-leb _ _ (c .before .before .before .before .pre .2), le-ltb _ _ (c .before .if1 .left), ne-eqb _ _ (c .if2 .left), c .before .before .before .first-row .ensures, c .before .before .at .ensures)
+returns-3 c =
+    let pre = c .before .before .before .before .pre in
+    row-told _ _ _ (pre .0) (pre .1) (pre .2) (pre .3)
+    (simp (le-ltb _ _ (c .before .if1 .left), ne-eqb _ _ (c .if2 .left), c .before .before .before .first-row .ensures, c .before .before .at .ensures))
 
 pub parse-preamble-spec : {M : Type 1} → statement M
 parse-preamble-spec =

@@ -44,13 +44,13 @@ returns : tie.Need-returns
 returns c =
     let p = c .before .before .before .before .args .self in
     rw (c .before .if1 .taken, c .before .before .style .ensures, c .before .before .before .row-prefix .ensures)
-    (underlined-row (p .row) (styleOf (p .ty)) (style-back (p .ty) .0))
+    (underlined-row (p .row) (styleOf (p .ty)))
 
 returns-2 : tie.Need-returns-2
 returns-2 c =
     let p = c .before .before .before .before .args .self in
     rw (c .before .if1 .left, c .before .before .style .ensures, c .before .before .before .row-prefix .ensures)
-    (plain-row (p .row) (styleOf (p .ty)) (style-back (p .ty) .0))
+    (plain-row (p .row) (styleOf (p .ty)))
 
 pub bytes-in-row-spec : {M : Type 1} → statement M
 bytes-in-row-spec =

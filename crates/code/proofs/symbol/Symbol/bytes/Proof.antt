@@ -1,12 +1,11 @@
--- `code::symbol::Symbol::bytes` meets its contract: the row's first bytes have room for the column (`symbol-plus`).
+-- `code::symbol::Symbol::bytes` meets its contract: the row's first bytes have room for the column.
 -- Assumes nothing.
 use Prim.Native.Nat.{ℕ}
 use borrow.Author.Needs.{needs}
 use mathlib.Core.Path.{ap}
 use native.Mathlib.Omega.{arith}
-use Rattle.code.proofs.Bytes.{base-small, symbol-plus}
+use Rattle.code.proofs.Bytes.{base-small}
 use Rattle.code.proofs.Numbers.{column-back}
-use Rattle.code.specs.Column.{columnNumber}
 use Rattle.code.specs.declared.pair.Pair.{Pair}
 use Rattle.code.proofs.symbol.Symbol.bytes.Statement.{statement}
 use Rattle.code.proofs.symbol.Symbol.bytes.Tie as tie
@@ -26,13 +25,7 @@ add-t6 c =
     omega (arith, ap second (c .before .before .base .ensures), base-small (s .row), column-back (s .column) .0)
 
 returns : tie.Need-returns
-returns c =
-    let s = c .before .before .before .args .self in
-    simp (
-      c .before .before .base .ensures,
-      c .before .number .ensures,
-      symbol-plus (s .row) (columnNumber (s .column)) (column-back (s .column) .0),
-    )
+returns c = simp (c .before .before .base .ensures, c .before .number .ensures)
 
 pub bytes-spec : {M : Type 1} → statement M
 bytes-spec = tie.close (tie.spec base-requires number-requires add-t6 returns)

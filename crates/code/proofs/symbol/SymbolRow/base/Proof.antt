@@ -2,7 +2,7 @@
 -- Assumes nothing.
 use borrow.Author.Needs.{needs}
 use mathlib.Core.Path.{ap, sym}
-use Rattle.code.specs.Write.{symbolBase}
+use Rattle.code.specs.Symbol.{symbolBase}
 use Rattle.code.proofs.symbol.SymbolRow.base.Statement.{statement}
 use Rattle.code.proofs.symbol.SymbolRow.base.Tie as tie
 

@@ -1,7 +1,8 @@
 -- `event::id::Id::from_value` meets its contract: the code tests the number's bits, which determine it.
 -- Assumes nothing.
-use Prim.Native.Nat.{ℕ}
-use borrow.Author.Tests.{ne-eqb}
+use Prim.Native.Nat.{ℕ, _≤_, _<_}
+use native.Mathlib.Omega.{arith}
+use Rattle.code.proofs.Ranges.{outside}
 use lib.IntN.{ℤ, pos, negsuc}
 use mathlib.Core.Path.{_≡_, refl, ap, sym, _∙_}
 use mir.Syntax.{w8}
@@ -16,14 +17,19 @@ use Rattle.event.proofs.id.Id.from_value.Tie as tie
 value-is : (z : ℤ) (k : ℕ) → SFits w8 z → ofZ w8 z ≡ k → z ≡ toZ w8 k
 value-is z k fits e = sym (toZ-ofZ w8 z fits) ∙ ap (toZ w8) e
 
+none-of-four : (n : ℕ) → (n ≡ 1 → ⊥) → (n ≡ 2 → ⊥) → (n ≡ 3 → ⊥) → (n ≡ 4 → ⊥) → 1 ≤ n → 4 < n
+none-of-four n h1 h2 h3 h4 from = omega arith
+
 other : (z : ℤ) → (ofZ w8 z ≡ 1 → ⊥) → (ofZ w8 z ≡ 2 → ⊥) → (ofZ w8 z ≡ 3 → ⊥) → (ofZ w8 z ≡ 4 → ⊥) → refused 6 ≡ fromValue z
 other (pos n) h1 h2 h3 h4 =
-    simp (
-      ne-eqb n 1 (λ (e : n ≡ 1). h1 (ap (λ (m : ℕ). ofZ w8 (pos m)) e)),
-      ne-eqb n 2 (λ (e : n ≡ 2). h2 (ap (λ (m : ℕ). ofZ w8 (pos m)) e)),
-      ne-eqb n 3 (λ (e : n ≡ 3). h3 (ap (λ (m : ℕ). ofZ w8 (pos m)) e)),
-      ne-eqb n 4 (λ (e : n ≡ 4). h4 (ap (λ (m : ℕ). ofZ w8 (pos m)) e)),
-    )
+    rw
+    (outside 1 4 n
+    (none-of-four n
+    (λ (e : n ≡ 1). h1 (ap (λ (m : ℕ). ofZ w8 (pos m)) e))
+    (λ (e : n ≡ 2). h2 (ap (λ (m : ℕ). ofZ w8 (pos m)) e))
+    (λ (e : n ≡ 3). h3 (ap (λ (m : ℕ). ofZ w8 (pos m)) e))
+    (λ (e : n ≡ 4). h4 (ap (λ (m : ℕ). ofZ w8 (pos m)) e))))
+    refl
 other (negsuc n) h1 h2 h3 h4 = refl
 
 returns : tie.Need-returns

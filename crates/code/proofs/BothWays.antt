@@ -1,0 +1,80 @@
+-- Characters both ways. The code of a character has that character; a letter, or a symbol with a character, is the code of
+-- its character, with the given channel and no field.
+-- Assumes nothing.
+use mathlib.Core.Bool.{true, true≢false}
+use mathlib.Core.Option.{Option, none, some}
+use mathlib.Core.Path.{_≡_, refl, ap, sym, _∙_}
+use Prim.Native.Nat.{ℕ}
+use borrow.Author.Tests.{eqb-true}
+use lib.ListN.{getD}
+use Rattle.code.proofs.First.{first-inside, first-passes}
+use Rattle.code.proofs.Numbers.{letter-again, letter-place, letter-small, symbol-again, symbol-place, symbol-small}
+use Rattle.code.proofs.OneAnswer.{clash, same}
+use Rattle.code.proofs.TableRules.{firstIn, letter-once, symbol-apart, symbol-once}
+use Rattle.code.specs.Characters.{isPoint, placeOf, standard, symbols}
+use Rattle.code.specs.Code.{charOf, fromChar, letterCode, symbolCode}
+use Rattle.code.specs.Letter.{letterAt, letterPlace}
+use Rattle.code.specs.Outcome.{answer}
+use Rattle.code.specs.Symbol.{symbolAt, symbolPlace}
+use Rattle.code.specs.declared.channel.Channel.{Channel}
+use Rattle.code.specs.declared.code.Code.{Code}
+use Rattle.code.specs.declared.code.Code.the-variants as code
+use Rattle.code.specs.declared.control.CodeField.{CodeField}
+use Rattle.code.specs.declared.control.CodeField.the-variants.{Absent}
+use Rattle.code.specs.declared.control.Control.the-variants as control
+use Rattle.code.specs.declared.letter.Letter.{Letter}
+use Rattle.code.specs.declared.symbol.Symbol.{Symbol}
+
+-- a symbol as a code
+abbrev pub symbolAs : CodeField → Channel → Symbol → Code
+symbolAs f ch s = code.Control (record { field = f; channel = ch; control = control.Symbol s })
+
+-- what stands at the place of a character is that character
+is-that-point : (c : ℕ) (o : Option ℕ) → isPoint c o ≡ true → o ≡ some c
+is-that-point c none e = absurd (true≢false (sym e))
+is-that-point c (some d) e = ap some (sym (eqb-true c d e))
+
+letter-has : (c i : ℕ) → placeOf c standard ≡ some i → charOf (code.Letter (letterAt i)) ≡ some c
+unfolding standard
+letter-has c i e =
+    ap (λ (n : ℕ). getD standard n none) (letter-place i (first-inside (isPoint c) standard i e))
+    ∙ is-that-point c (getD standard i none) (first-passes (isPoint c) standard none i e)
+
+symbol-has : (c i : ℕ) (ch : Channel) → placeOf c symbols ≡ some i → charOf (symbolAs Absent ch (symbolAt i)) ≡ some c
+unfolding symbols
+symbol-has c i ch e =
+    ap (λ (n : ℕ). getD symbols n none) (symbol-place i (first-inside (isPoint c) symbols i e))
+    ∙ is-that-point c (getD symbols i none) (first-passes (isPoint c) symbols none i e)
+
+by-symbol : (c : ℕ) (ch : Channel) (x : Code) (o : Option ℕ) → placeOf c symbols ≡ o → symbolCode ch o ≡ answer x → charOf x ≡ some c
+by-symbol c ch x none place e = absurd (clash (sym e))
+by-symbol c ch x (some i) place e = ap charOf (sym (same e)) ∙ symbol-has c i ch place
+
+by-letter : (c : ℕ) (ch : Channel) (x : Code) (o : Option ℕ) → placeOf c standard ≡ o → letterCode o (symbolCode ch (placeOf c symbols)) ≡ answer x → charOf x ≡ some c
+by-letter c ch x none place e = by-symbol c ch x (placeOf c symbols) refl e
+by-letter c ch x (some i) place e = ap charOf (sym (same e)) ∙ letter-has c i place
+
+pub a-characters-code-has-it : (c : ℕ) (ch : Channel) (x : Code) → fromChar c ch ≡ answer x → charOf x ≡ some c
+unfolding fromChar
+a-characters-code-has-it c ch x e = by-letter c ch x (placeOf c standard) refl e
+
+-- the place of a letter's character is the letter's own
+letter-at-its-place : (l : Letter) (c : ℕ) → charOf (code.Letter l) ≡ some c → placeOf c standard ≡ some (letterPlace l)
+letter-at-its-place l c e = sym (ap (firstIn standard) e) ∙ letter-once (letterPlace l) (letter-small l)
+
+pub a-letter-is-its-characters-code : (l : Letter) (c : ℕ) (ch : Channel) → charOf (code.Letter l) ≡ some c → fromChar c ch ≡ answer (code.Letter l)
+unfolding fromChar
+a-letter-is-its-characters-code l c ch e =
+    ap (λ (o : Option ℕ). letterCode o (symbolCode ch (placeOf c symbols))) (letter-at-its-place l c e)
+    ∙ ap (λ (x : Letter). answer (code.Letter x)) (letter-again l)
+
+-- a symbol's character is no standard one, and its place among the symbols is the symbol's own
+symbol-is-no-letter : (s : Symbol) (c : ℕ) → getD symbols (symbolPlace s) none ≡ some c → placeOf c standard ≡ none
+symbol-is-no-letter s c e = sym (ap (firstIn standard) e) ∙ symbol-apart (symbolPlace s) (symbol-small s)
+
+pub a-symbol-is-its-characters-code : (f : CodeField) (d : Channel) (s : Symbol) (c : ℕ) (ch : Channel) → charOf (symbolAs f d s) ≡ some c → fromChar c ch ≡ answer (symbolAs Absent ch s)
+unfolding fromChar
+a-symbol-is-its-characters-code f d s c ch e =
+    ap (λ (o : Option ℕ). letterCode o (symbolCode ch (placeOf c symbols))) (symbol-is-no-letter s c e)
+    ∙ ap (symbolCode ch) (symbol-once (symbolPlace s) c (symbol-small s) e)
+    ∙ ap (λ (x : Symbol). answer (symbolAs Absent ch x)) (symbol-again s)
