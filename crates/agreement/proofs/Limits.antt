@@ -42,7 +42,7 @@ use Rattle.sender.specs.Drain.{drainSender}
 use Rattle.sender.specs.Sender.{freshSender, idleSender, pushSender, sendSender, wellFormed}
 use Rattle.sender.specs.Sending.{send}
 
-abbrev command : Command → Code
+abbrev pub command : Command → Code
 command c = code.Control (record { field = Of fieldOne; channel = channelOne; control = control.Command c })
 
 -- one pair is sent, and a drain writes the others into nine bytes, from the second byte on
@@ -54,10 +54,10 @@ programme =
 abbrev modeEvent : Cea608
 modeEvent = event.NewMode channelOne mode.RollUp2
 
-abbrev returnEvent : Cea608
+abbrev pub returnEvent : Cea608
 returnEvent = event.CarriageReturn channelOne
 
-abbrev hiEvent : Cea608
+abbrev pub hiEvent : Cea608
 hiEvent = event.Text (record { «needs_backspace» = false; char1 = character.Point 0x48; char2 = character.Point 0x69; channel = channelOne })
 
 abbrev line : List Pair
