@@ -95,7 +95,7 @@ abbrev pub ByNumber1 : Outcome (Option Cea608) → Type 0
 ByNumber1 (answer e) = Unit
 ByNumber1 (refused n) = n ≡ 1
 
--- so is every one of a list
+-- every one of a list
 abbrev pub All : {A : Type 0} → (A → Type 0) → List A → Type 0
 All Is [] = Unit
 All Is (x ∷ xs) = Is x × All Is xs
