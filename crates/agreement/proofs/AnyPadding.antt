@@ -8,8 +8,8 @@ use Rattle.agreement.specs.AnyPadding.{AnyPaddingLaw}
 use Rattle.receiver.specs.Receiver.{fresh}
 
 pub at-any-padding : AnyPaddingLaw
-at-any-padding acts arrived padded idle line repadded =
-    let agrees = agreement acts arrived idle line in
+at-any-padding calls arrived padded no-reset idle line repadded =
+    let agrees = agreement calls arrived no-reset idle line in
     let same = frame-rate-law fresh arrived padded repadded in
     record {
       same-events = sym (same .same-events) ∙ agrees .same-events;

@@ -51,14 +51,14 @@ repeat-is-told none l p c k r = quiet-is-no-repeat p c (k .0) l (k .1) r
 repeat-is-told (some q) l p c k r = ap (isLast p) r
 
 -- an answer before both, and one without an event before what arrived alone
-events-behind : (o : Outcome (Option Cea608)) (xs ys : List (Outcome (Option Cea608))) → events xs ≡ events ys → events (o ∷ xs) ≡ events (o ∷ ys)
-events-behind (answer none) xs ys e = e
-events-behind (answer (some x)) xs ys e = ap (λ (l : List Cea608). x ∷ l) e
-events-behind (refused n) xs ys e = e
+pub events-after : (o : Outcome (Option Cea608)) (xs ys : List (Outcome (Option Cea608))) → events xs ≡ events ys → events (o ∷ xs) ≡ events (o ∷ ys)
+events-after (answer none) xs ys e = e
+events-after (answer (some x)) xs ys e = ap (λ (l : List Cea608). x ∷ l) e
+events-after (refused n) xs ys e = e
 
 heard-in-front : (s t s′ t′ : Cea608State) (o : Outcome (Option Cea608)) (q p : Pair) (qs ps : List Pair) → step s q ≡ (o, s′) → once t p ≡ (o, t′) → Agrees s′ t′ qs ps → Agrees s t (q ∷ qs) (p ∷ ps)
 heard-in-front s t s′ t′ o q p qs ps one other a = record {
-  same-events = rw (one, other) (events-behind o (answers s′ qs) (readOnce t′ ps) (a .same-events));
+  same-events = rw (one, other) (events-after o (answers s′ qs) (readOnce t′ ps) (a .same-events));
   ends-same = rw (one, other) (a .ends-same);
 }
 

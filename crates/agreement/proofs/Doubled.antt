@@ -1,9 +1,11 @@
 -- What is sent: the queue's pairs in order, each text pair once and each command pair twice in a row, but for a repeat
 -- that is still owed. And every pair of the queue has odd parity.
 -- Assumes nothing.
-use mathlib.Core.Bool.{Bool, true, false, cond}
+use mathlib.Core.Bool.{Bool, true, false, cond, not}
 use mathlib.Core.List.{List, [], _∷_, _++_, append-assoc, append-nil}
-use mathlib.Core.Path.{_≡_, refl, ap, sym, subst, _∙_}
+use mathlib.Core.Path.{_≡_, refl, ap, ap₂, sym, subst, _∙_}
+use Prim.Native.Nat.{ℕ, zero, suc}
+use Rattle.code.proofs.Both.{both-left, both-right}
 use Rattle.code.proofs.Written.{SentPair}
 use Rattle.code.specs.Outcome.{Outcome, answer}
 use Rattle.code.specs.Read.{isCommandPair, isOddPair}
@@ -14,15 +16,21 @@ use Rattle.queue.specs.Queue.{pop}
 use Rattle.queue.specs.Ring.{popRing}
 use Rattle.queue.specs.Ring as queue
 use Rattle.queue.specs.declared.ring.Queue.{Queue}
-use Rattle.sender.proofs.Refines.{push-good, pushed-as, queue-formed, send-good, send-refines}
-use Rattle.agreement.specs.Agreement.{Act, queueing, sending, afterActs, given, fromQueue, queuePairs, sentBy}
+use Rattle.sender.proofs.InCalls.{holds-in-calls}
+use Rattle.sender.proofs.Order.{call-owes, call-stays-good}
+use Rattle.sender.proofs.Refines.{queue-formed, send-good, send-refines}
+use Rattle.agreement.proofs.Drains.{calls-send-so-many, sentInARow}
+use Rattle.agreement.specs.Agreement.{All, given, fromQueue, queuePair, queuePairs, sentBy, sentIn}
 use Rattle.agreement.specs.Doubled.{doubled}
+use Rattle.sender.specs.Calls.{Call, inSends, isReset, noReset, onSender, senderAfter, sendsBy}
+use Rattle.sender.specs.Drain.{sendSenderTimes}
 use Rattle.sender.specs.Good.{Good}
-use Rattle.agreement.specs.OneByOne.{AllOdd}
-use Rattle.sender.specs.Sender.{pushSender, sendSender, view}
+use Rattle.agreement.specs.OneByOne.{AllOdd, IsOdd}
+use Rattle.sender.specs.Sender.{sendSender, view}
 use Rattle.sender.specs.Sending.{Sending, repeatsAfter, send, sendOwed, stillOwed}
 use Rattle.sender.specs.declared.sender.Owed.{Owed}
 use Rattle.sender.specs.declared.sender.Owed.the-variants as owed
+use Rattle.sender.specs.declared.sender.Repeats.{Repeats}
 use Rattle.sender.specs.declared.sender.Sender.{Sender}
 
 -- a well-formed queue gives its pair
@@ -44,39 +52,72 @@ one-send owed.Absent q later ps formed e =
     ∙ twice p ps (isCommandPair p) refl
     ∙ ap (λ (o : Outcome Pair). doubled (given o ++ ps)) (sym (pair-of-queue q formed))
 
--- in any run of acts: what is sent, then what is still owed, is what was owed, then the queue's pairs doubled
-pub sent-is-doubled : (acts : List Act) (s : Sender) → Good s → sentBy acts s ++ stillOwed (afterActs acts s .repeats .owed) ≡ stillOwed (s .repeats .owed) ++ doubled (queuePairs acts s)
+-- in so many sends in a row: what is sent, then what is still owed, is what was owed, then the queue's pairs doubled
+sends-are-doubled : (n : ℕ) (s : Sender) → Good s → sentInARow n s ++ stillOwed (sendSenderTimes n s .repeats .owed) ≡ stillOwed (s .repeats .owed) ++ doubled (inSends queuePair n s)
 unfolding send
-sent-is-doubled [] s g = sym (append-nil (stillOwed (s .repeats .owed)))
-sent-is-doubled (queueing c ∷ acts) s g =
-    sent-is-doubled acts (pushSender s c .1) (push-good s c g)
-    ∙ ap (λ (o : Owed). stillOwed o ++ doubled (queuePairs acts (pushSender s c .1))) (ap (λ (r : Outcome Unit × Sender). r .1 .repeats .owed) (pushed-as s c (g .formed)))
-sent-is-doubled (sending ∷ acts) s g =
+sends-are-doubled zero s g = sym (append-nil (stillOwed (s .repeats .owed)))
+sends-are-doubled (suc n) s g =
     let next = sendSender s .1 in
     let told = send-refines s g in
-    let later = sentBy acts next ++ stillOwed (afterActs acts next .repeats .owed) in
-    append-assoc (given (sendSender s .0)) (sentBy acts next) (stillOwed (afterActs acts next .repeats .owed))
+    let end = stillOwed (sendSenderTimes n next .repeats .owed) in
+    let later = sentInARow n next ++ end in
+    append-assoc (given (sendSender s .0)) (sentInARow n next) end
     ∙ ap (λ (o : Outcome Pair). given o ++ later) (told .0)
-    ∙ one-send (s .repeats .owed) (s .queue) later (queuePairs acts next) (queue-formed s (g .formed))
-    (sent-is-doubled acts next (send-good s g)
-    ∙ ap (λ (v : Sending). stillOwed (v .repeats .owed) ++ doubled (queuePairs acts next)) (told .1))
+    ∙ one-send (s .repeats .owed) (s .queue) later (inSends queuePair n next) (queue-formed s (g .formed))
+    (sends-are-doubled n next (send-good s g)
+    ∙ ap (λ (v : Sending). stillOwed (v .repeats .owed) ++ doubled (inSends queuePair n next)) (told .1))
+
+-- of one call
+call-is-doubled : (c : Call) (s : Sender) → Good s → not (isReset c) ≡ true → sentIn c s ++ stillOwed (onSender c s .1 .repeats .owed) ≡ stillOwed (s .repeats .owed) ++ doubled (inSends queuePair (sendsBy (onSender c s .0)) s)
+call-is-doubled c s g stays =
+    let n = sendsBy (onSender c s .0) in
+    ap₂ (λ (l : List Pair) (r : Repeats). l ++ stillOwed (r .owed)) (calls-send-so-many c s g) (call-owes c s g stays)
+    ∙ sends-are-doubled n s g
+
+-- doubled part by part
+one-doubled-first : (p : Pair) (ps qs : List Pair) (t : Bool) → cond t (p ∷ p ∷ (ps ++ qs)) (p ∷ (ps ++ qs)) ≡ cond t (p ∷ p ∷ ps) (p ∷ ps) ++ qs
+one-doubled-first p ps qs true = refl
+one-doubled-first p ps qs false = refl
+
+pub doubled-by-parts : (ps qs : List Pair) → doubled (ps ++ qs) ≡ doubled ps ++ doubled qs
+doubled-by-parts [] qs = refl
+doubled-by-parts (p ∷ ps) qs =
+    ap (λ (l : List Pair). cond (isCommandPair p) (p ∷ p ∷ l) (p ∷ l)) (doubled-by-parts ps qs)
+    ∙ one-doubled-first p (doubled ps) (doubled qs) (isCommandPair p)
+
+-- in any run of calls
+pub sent-is-doubled : (calls : List Call) (s : Sender) → Good s → noReset calls ≡ true → sentBy calls s ++ stillOwed (senderAfter calls s .repeats .owed) ≡ stillOwed (s .repeats .owed) ++ doubled (queuePairs calls s)
+sent-is-doubled [] s g none = sym (append-nil (stillOwed (s .repeats .owed)))
+sent-is-doubled (c ∷ calls) s g none =
+    let next = onSender c s .1 in
+    let before = stillOwed (s .repeats .owed) in
+    let here = inSends queuePair (sendsBy (onSender c s .0)) s in
+    let later = queuePairs calls next in
+    append-assoc (sentIn c s) (sentBy calls next) (stillOwed (senderAfter calls next .repeats .owed))
+    ∙ ap (λ (l : List Pair). sentIn c s ++ l) (sent-is-doubled calls next (call-stays-good c s g) (both-right (not (isReset c)) (noReset calls) none))
+    ∙ sym (append-assoc (sentIn c s) (stillOwed (next .repeats .owed)) (doubled later))
+    ∙ ap (λ (l : List Pair). l ++ doubled later) (call-is-doubled c s g (both-left (not (isReset c)) (noReset calls) none))
+    ∙ append-assoc before (doubled here) (doubled later)
+    ∙ ap (λ (l : List Pair). before ++ l) (sym (doubled-by-parts here later))
 
 -- every pair of the queue has odd parity, and so has every pair that is sent
 sent-is-odd : (p : Pair) → SentPair p → isOddPair p ≡ true
 sent-is-odd p s = rw (s .first .odd, s .second .odd) refl
 
-popped-odd : (o : Owed) (q : Queue) (ps : List Pair) → queue.wellFormed q ≡ true → AllOdd ps → AllOdd (fromQueue o q ++ ps)
-popped-odd (owed.Repeat p) q ps formed all = all
-popped-odd owed.Absent q ps formed all =
-    subst (λ (o : Outcome Pair). AllOdd (given o ++ ps)) (sym (pair-of-queue q formed))
-    (sent-is-odd (pop (queue.view q) .pair) (popped-is-sent (queue.view q) (good-fits q formed)), all)
+popped-odd : (o : Owed) (q : Queue) → queue.wellFormed q ≡ true → AllOdd (fromQueue o q)
+popped-odd (owed.Repeat p) q formed = tt
+popped-odd owed.Absent q formed =
+    subst (λ (o : Outcome Pair). AllOdd (given o)) (sym (pair-of-queue q formed))
+    (sent-is-odd (pop (queue.view q) .pair) (popped-is-sent (queue.view q) (good-fits q formed)), tt)
 
-pub queue-pairs-are-odd : (acts : List Act) (s : Sender) → Good s → AllOdd (queuePairs acts s)
-queue-pairs-are-odd [] s g = tt
-queue-pairs-are-odd (queueing c ∷ acts) s g = queue-pairs-are-odd acts (pushSender s c .1) (push-good s c g)
-queue-pairs-are-odd (sending ∷ acts) s g =
-    popped-odd (s .repeats .owed) (s .queue) (queuePairs acts (sendSender s .1)) (queue-formed s (g .formed))
-    (queue-pairs-are-odd acts (sendSender s .1) (send-good s g))
+pub all-of-both : {A : Type 0} (Is : A → Type 0) (xs ys : List A) → All Is xs → All Is ys → All Is (xs ++ ys)
+all-of-both Is [] ys first second = second
+all-of-both Is (x ∷ xs) ys first second = (first .0, all-of-both Is xs ys (first .1) second)
+
+pub queue-pairs-are-odd : (calls : List Call) (s : Sender) → Good s → AllOdd (queuePairs calls s)
+queue-pairs-are-odd calls s g =
+    holds-in-calls queuePair AllOdd tt (all-of-both IsOdd)
+    (λ (r : Sender) (good : Good r). popped-odd (r .repeats .owed) (r .queue) (queue-formed r (good .formed))) calls s g
 
 doubled-odd : (p : Pair) (ps : List Pair) (t : Bool) → isOddPair p ≡ true → AllOdd ps → AllOdd (cond t (p ∷ p ∷ ps) (p ∷ ps))
 doubled-odd p ps true odd all = (odd, (odd, all))

@@ -2,12 +2,12 @@
 -- whole over a line that corrupts one copy of each command; with both copies of the carriage return corrupted the
 -- window does not scroll; with the text corrupted its words are lost. antt computes each from the definitions.
 -- Assumes nothing.
-use mathlib.Core.Bool.{false}
+use mathlib.Core.Bool.{true, false}
 use mathlib.Core.List.{List, [], _∷_, map}
 use mathlib.Core.Path.{_≡_, refl, ap, _∙_}
 use native.Mathlib.Omega.{arith}
 use lib.Count.{ones, onesIn}
-use lib.ListN.{length}
+use lib.ListN.{length, replicate}
 use Rattle.code.specs.Channel.{channelOne, fieldOne}
 use Rattle.code.specs.Characters.{standard}
 use Rattle.code.specs.Letter.{letterAt}
@@ -33,41 +33,44 @@ use Rattle.queue.specs.Ring as ring
 use Rattle.receiver.specs.Reading.{answers, events, readOnce}
 use Rattle.receiver.specs.Receiver.{fresh}
 use Rattle.agreement.proofs.OneByOne.{one-by-one-is-a-line}
-use Rattle.agreement.specs.Agreement.{Act, queueing, sending, Agreement, Carried, EndsIdle, Line, queuePairs, refusalNumber, sentBy}
+use Rattle.agreement.specs.Agreement.{Agreement, Carried, EndsIdle, Line, isRefusal, queuePairs, sentBy}
 use Rattle.agreement.specs.Agreement as agreed
 use Rattle.agreement.specs.OneByOne as one
 use Rattle.agreement.specs.Pairs.{carriageReturn, hi, rollUp2}
 use Rattle.agreement.specs.QueuedCommands.{packed}
+use Rattle.sender.specs.Calls.{Call, pushing, sending, draining, asking, noReset}
+use Rattle.sender.specs.Drain.{drainSender}
 use Rattle.sender.specs.Sender.{freshSender, idleSender, pushSender, sendSender, wellFormed}
 use Rattle.sender.specs.Sending.{send}
 
-abbrev command : Command → Code
+abbrev pub command : Command → Code
 command c = code.Control (record { field = Of fieldOne; channel = channelOne; control = control.Command c })
 
-abbrev programme : List Act
+-- one pair is sent, and a drain writes the others into nine bytes, from the second byte on
+abbrev programme : List Call
 programme =
-    queueing (command RollUp2) ∷ queueing (command CarriageReturn) ∷ queueing (code.Letter (letterAt 0x28))
-    ∷ queueing (code.Letter (letterAt 0x49)) ∷ sending ∷ sending ∷ sending ∷ sending ∷ sending ∷ []
+    pushing (command RollUp2) ∷ pushing (command CarriageReturn) ∷ pushing (code.Letter (letterAt 0x28))
+    ∷ pushing (code.Letter (letterAt 0x49)) ∷ sending ∷ asking ∷ draining (replicate 9 0) 1 100 ∷ []
 
 abbrev modeEvent : Cea608
 modeEvent = event.NewMode channelOne mode.RollUp2
 
-abbrev returnEvent : Cea608
+abbrev pub returnEvent : Cea608
 returnEvent = event.CarriageReturn channelOne
 
-abbrev hiEvent : Cea608
+abbrev pub hiEvent : Cea608
 hiEvent = event.Text (record { «needs_backspace» = false; char1 = character.Point 0x48; char2 = character.Point 0x69; channel = channelOne })
 
 abbrev line : List Pair
 line = rollUp2 ∷ rollUp2 ∷ carriageReturn ∷ carriageReturn ∷ hi ∷ []
 
-pub what-is-sent : (sentBy programme freshSender ≡ line) × (queuePairs programme freshSender ≡ rollUp2 ∷ carriageReturn ∷ hi ∷ []) × EndsIdle programme
-unfolding ones onesIn writeCode inDomain queueable admit pairOf codeOf pop pushRing popRing ring.wellFormed wellFormed pushSender send sendSender idleSender
-what-is-sent = (refl, refl, refl)
+pub what-is-sent : (sentBy programme freshSender ≡ line) × (queuePairs programme freshSender ≡ rollUp2 ∷ carriageReturn ∷ hi ∷ []) × (noReset programme ≡ true) × EndsIdle programme
+unfolding ones onesIn writeCode inDomain queueable admit pairOf codeOf pop pushRing popRing ring.wellFormed wellFormed pushSender send sendSender drainSender idleSender
+what-is-sent = (refl, refl, refl, refl)
 
 -- the codes of each pair
 pub what-it-is-made-of : packed programme freshSender ≡ record { pair = rollUp2; codes = command RollUp2 ∷ [] } ∷ record { pair = carriageReturn; codes = command CarriageReturn ∷ [] } ∷ record { pair = hi; codes = code.Letter (letterAt 0x28) ∷ code.Letter (letterAt 0x49) ∷ [] } ∷ []
-unfolding ones onesIn writeCode inDomain queueable admit pairOf codeOf pop pushRing popRing ring.wellFormed wellFormed pushSender send sendSender
+unfolding ones onesIn writeCode inDomain queueable admit pairOf codeOf pop pushRing popRing ring.wellFormed wellFormed pushSender send sendSender drainSender idleSender
 what-it-is-made-of = refl
 
 pub what-is-meant : events (readOnce fresh (rollUp2 ∷ carriageReturn ∷ hi ∷ [])) ≡ modeEvent ∷ returnEvent ∷ hiEvent ∷ []
@@ -88,7 +91,7 @@ pub one-corrupted-each-is-decoded : events (answers fresh oneCorruptedEach) ≡ 
 unfolding readPair ones onesIn standard
 one-corrupted-each-is-decoded = refl
 
-pub one-corrupted-each-is-refused : map refusalNumber (answers fresh oneCorruptedEach) ≡ 1 ∷ 0 ∷ 0 ∷ 1 ∷ 0 ∷ []
+pub one-corrupted-each-is-refused : map isRefusal (answers fresh oneCorruptedEach) ≡ true ∷ false ∷ false ∷ true ∷ false ∷ []
 unfolding readPair ones onesIn standard
 one-corrupted-each-is-refused = refl
 
@@ -114,30 +117,30 @@ unfolding readPair ones onesIn
 corrupted-text-loses-words = refl
 
 -- so the agreement fails for both: two events are decoded, and three were meant
-fails : (arrived : List Pair) → length (events (answers fresh arrived)) ≡ 2 → Agreement programme arrived → ⊥
+fails : (arrived : List Pair) → length (events (answers fresh arrived)) ≡ 2 → Agreement (queuePairs programme freshSender) (sentBy programme freshSender) arrived → ⊥
 fails arrived two agrees =
     let meant = agrees .same-events ∙ ap (λ (ps : List Pair). events (readOnce fresh ps)) (what-is-sent .1) ∙ what-is-meant in
     omega (arith, two, ap length meant)
 
-pub no-agreement-over-two-corrupted : Agreement programme twoCorrupted → ⊥
+pub no-agreement-over-two-corrupted : Agreement (queuePairs programme freshSender) (sentBy programme freshSender) twoCorrupted → ⊥
 no-agreement-over-two-corrupted agrees = fails twoCorrupted (ap length two-corrupted-lose-a-command) agrees
 
-pub no-agreement-over-corrupted-text : Agreement programme textCorrupted → ⊥
+pub no-agreement-over-corrupted-text : Agreement (queuePairs programme freshSender) (sentBy programme freshSender) textCorrupted → ⊥
 no-agreement-over-corrupted-text agrees = fails textCorrupted (ap length corrupted-text-loses-words) agrees
 
 -- half a command: `Unknown` 14 before A is one pair of two single codes, 94 C1, and is sent twice
-abbrev halfACommand : List Act
+abbrev halfACommand : List Call
 halfACommand =
-    queueing (code.Unknown 0x14) ∷ queueing (code.Letter (letterAt 0x21)) ∷ sending ∷ sending ∷ []
+    pushing (code.Unknown 0x14) ∷ pushing (code.Letter (letterAt 0x21)) ∷ sending ∷ sending ∷ []
 
 pub half-a-command-is-sent-twice : (packed halfACommand freshSender ≡ record { pair = pair 0x94 0xC1; codes = code.Unknown 0x14 ∷ code.Letter (letterAt 0x21) ∷ [] } ∷ []) × (sentBy halfACommand freshSender ≡ pair 0x94 0xC1 ∷ pair 0x94 0xC1 ∷ [])
 unfolding ones onesIn writeCode inDomain queueable admit pairOf codeOf pop pushRing popRing ring.wellFormed wellFormed pushSender send sendSender
 half-a-command-is-sent-twice = (refl, refl)
 
 -- a carriage return queued twice is a stretch of four, and two corrupted copies lose one of the two scrolls
-abbrev twoReturns : List Act
+abbrev twoReturns : List Call
 twoReturns =
-    queueing (command CarriageReturn) ∷ queueing (command CarriageReturn) ∷ sending ∷ sending ∷ sending ∷ sending ∷ []
+    pushing (command CarriageReturn) ∷ pushing (command CarriageReturn) ∷ sending ∷ sending ∷ sending ∷ sending ∷ []
 
 pub a-stretch-of-four : (sentBy twoReturns freshSender ≡ carriageReturn ∷ carriageReturn ∷ carriageReturn ∷ carriageReturn ∷ []) × (queuePairs twoReturns freshSender ≡ carriageReturn ∷ carriageReturn ∷ [])
 unfolding ones onesIn writeCode inDomain queueable admit pairOf codeOf pop pushRing popRing ring.wellFormed wellFormed pushSender send sendSender

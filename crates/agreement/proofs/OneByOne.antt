@@ -1,11 +1,11 @@
 -- The line as the letter has it, of whole stretches, and the same pair by pair: each follows from the other, where what
 -- was sent has odd parity.
 -- Assumes nothing.
-use mathlib.Core.Bool.{Bool, true, false, cond, true≢false}
+use mathlib.Core.Bool.{Bool, true, false, cond, not, true≢false}
 use mathlib.Core.List.{List, [], _∷_, _++_}
 use mathlib.Core.Option.{Option, none, some}
 use mathlib.Core.Path.{_≡_, refl, ap, ap₂, sym, subst, _∙_}
-use Prim.Native.Nat.{ℕ, zero, suc, _+_, _≤_}
+use Prim.Native.Nat.{ℕ, zero, suc, _≤_}
 use native.Mathlib.Omega.{arith}
 use borrow.Author.Tests.{eq-eqb, eqb-true}
 use lib.Dec.{eqb}
@@ -36,6 +36,13 @@ by-parity p q true e odd even = absurd (true≢false (sym odd ∙ ap isOddPair (
 pub spoiled-is-another : (p q : Pair) → isOddPair p ≡ true → isOddPair q ≡ false → samePair p q ≡ false
 spoiled-is-another p q odd even = by-parity p q (samePair p q) refl odd even
 
+-- it counts as one, and a pair that arrived as it was sent as none
+counted : (p q : Pair) (places : List Bool) → samePair p q ≡ false → hits (not (samePair p q) ∷ places) ≡ suc (hits places)
+counted p q places other = rw other refl
+
+not-counted : (p q : Pair) (places : List Bool) → samePair p q ≡ true → hits (not (samePair p q) ∷ places) ≡ hits places
+not-counted p q places same = rw same refl
+
 -- once a copy of a stretch is corrupted, no other is
 abbrev Spared : Option Pair → List Pair → List Pair → Type 0
 Spared none sent arrived = Unit
@@ -55,13 +62,12 @@ module _ (p q : Pair) (ps qs : List Pair) where
   spared-on (some x) true w same spared =
       λ (n : ℕ) (behind : List Pair) (e : ps ≡ replicate n x ++ behind).
       let is : p ≡ x = sym (same-is-equal x p w) in
-      omega (arith, spared (suc n) behind (ap₂ _∷_ is e))
+      sym (not-counted p q (take n (spoiledPlaces ps qs)) same) ∙ spared (suc n) behind (ap₂ _∷_ is e)
 
   spared-from : isOddPair p ≡ true → isOddPair q ≡ false → OneHit (p ∷ ps) (q ∷ qs) → Spared (some p) ps qs
   spared-from odd even all n behind e =
       let told = all [] (suc n) p behind (ap (λ (l : List Pair). p ∷ l) e) in
-      let here = ap (λ (t : Bool). cond {A = ℕ} t 0 1) (spoiled-is-another p q odd even) in
-      omega (arith, told, here)
+      omega (arith, told, counted p q (take n (spoiledPlaces ps qs)) (spoiled-is-another p q odd even))
 
   -- no second copy of a stretch is corrupted
   not-twice : (h : Option Pair) (t : Bool) → wasSpoiled h p ≡ t → isOddPair p ≡ true → isOddPair q ≡ false → Spared h (p ∷ ps) (q ∷ qs) → t ≡ false
@@ -70,8 +76,7 @@ module _ (p q : Pair) (ps qs : List Pair) where
   not-twice (some x) true w odd even spared =
       let is : p ≡ x = sym (same-is-equal x p w) in
       let told = spared 1 ps (ap (λ (y : Pair). y ∷ ps) is) in
-      let here = ap (λ (t : Bool). cond {A = ℕ} t 0 1) (spoiled-is-another p q odd even) in
-      absurd (omega (arith, told, here))
+      absurd (omega (arith, told, counted p q [] (spoiled-is-another p q odd even)))
 
 pub pair-by-pair : (h : Option Pair) (sent arrived : List Pair) → AllOdd sent → Carried sent arrived → OneHit sent arrived → Spared h sent arrived → OneByOne h sent arrived
 pair-by-pair h sent arrived odd line.ends all spared = one.ends
@@ -107,13 +112,6 @@ at-most-one : (t : Bool) (n : ℕ) → AtFront t n → n ≤ 1
 at-most-one true n e = omega (arith, e)
 at-most-one false n e = e
 
-arrived-adds : (p : Pair) (t : Bool) (n : ℕ) → AtFront t n → AtFront t (cond (samePair p p) 0 1 + n)
-arrived-adds p true n e = rw (same-itself p) (omega (arith, e))
-arrived-adds p false n e = rw (same-itself p) (omega (arith, e))
-
-spoiled-adds : (p q : Pair) (n : ℕ) → isOddPair p ≡ true → isOddPair q ≡ false → n ≡ 0 → cond (samePair p q) 0 1 + n ≤ 1
-spoiled-adds p q n odd even e = rw (spoiled-is-another p q odd even, e) (omega arith)
-
 weaker : (t : Bool) (n : ℕ) → AtFront t n → AtFront false n
 weaker t n e = at-most-one t n e
 
@@ -127,7 +125,7 @@ front (suc n) h sent arrived p rest odd one.ends e = absurd (omega (arith, ap le
 front (suc n) h sent arrived p rest odd (one.arrives {p = x} {ps = ps} {qs = qs} passed) e =
     let is = in-front x p ps (replicate n p ++ rest) e in
     let later = front n (goesOn h x) ps qs p rest (odd .1) passed (behind x p ps (replicate n p ++ rest) e) in
-    arrived-adds x (wasSpoiled h p) _ (still (wasSpoiled h p) refl is later)
+    subst (AtFront (wasSpoiled h p)) (sym (not-counted x x (take n (spoiledPlaces ps qs)) (same-itself x))) (still (wasSpoiled h p) refl is later)
   where
     still : (t : Bool) → wasSpoiled h p ≡ t → x ≡ p → AtFront (wasSpoiled (goesOn h x) p) (hits (take n (spoiledPlaces ps qs))) → AtFront t (hits (take n (spoiledPlaces ps qs)))
     still true w is later =
@@ -137,8 +135,10 @@ front (suc n) h sent arrived p rest odd (one.arrives {p = x} {ps = ps} {qs = qs}
 front (suc n) h sent arrived p rest odd (one.is-spoiled {p = x} {q = q} {ps = ps} {qs = qs} command w even passed) e =
     let is = in-front x p ps (replicate n p ++ rest) e in
     let later = front n (some x) ps qs p rest (odd .1) passed (behind x p ps (replicate n p ++ rest) e) in
-    subst (λ (t : Bool). AtFront t (cond (samePair x q) 0 1 + hits (take n (spoiledPlaces ps qs)))) (sym (ap (wasSpoiled h) (sym is) ∙ w))
-    (spoiled-adds x q _ (odd .0) even (subst (λ (t : Bool). AtFront t (hits (take n (spoiledPlaces ps qs)))) (ap (samePair x) (sym is) ∙ same-itself x) later))
+    let none-later = subst (λ (t : Bool). AtFront t (hits (take n (spoiledPlaces ps qs)))) (ap (samePair x) (sym is) ∙ same-itself x) later in
+    let here = counted x q (take n (spoiledPlaces ps qs)) (spoiled-is-another x q (odd .0) even) in
+    subst (λ (t : Bool). AtFront t (hits (take (suc n) (spoiledPlaces (x ∷ ps) (q ∷ qs))))) (sym (ap (wasSpoiled h) (sym is) ∙ w))
+    (omega (arith, none-later, here))
 
 one-hit : (before : List Pair) (h : Option Pair) (sent arrived : List Pair) → AllOdd sent → OneByOne h sent arrived → (n : ℕ) (p : Pair) (rest : List Pair) → sent ≡ before ++ (replicate n p ++ rest) → hits (take n (drop (length before) (spoiledPlaces sent arrived))) ≤ 1
 one-hit [] h sent arrived odd passed n p rest e = at-most-one (wasSpoiled h p) _ (front n h sent arrived p rest odd passed e)

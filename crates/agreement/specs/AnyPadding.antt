@@ -1,22 +1,24 @@
 -- What a receiver reports where the padding of what arrived was changed, in the port's own words: demand 3 of the
 -- customer's letter and the frame-rate law together. Padding moves the places of refusals, not their order.
 -- `AnyPaddingLaw` at the end is the law; `at-any-padding` in proofs/AnyPadding.antt proves it.
+use mathlib.Core.Bool.{true}
 use mathlib.Core.List.{List}
 use mathlib.Core.Path.{_≡_}
 use Rattle.code.specs.declared.pair.Pair.{Pair}
 use Rattle.receiver.specs.Reading.{after, afterOnce, answers, events, readOnce, said}
 use Rattle.receiver.specs.Receiver.{fresh}
-use Rattle.agreement.specs.Agreement.{Act, EndsIdle, Line, queuePairs, sentBy}
+use Rattle.agreement.specs.Agreement.{EndsIdle, Line, queuePairs, sentBy}
 use Rattle.agreement.specs.FrameRate.{Repadded}
+use Rattle.sender.specs.Calls.{Call, noReset}
 use Rattle.sender.specs.Sender.{freshSender}
 
-pub record AtAnyPadding (acts : List Act) (arrived padded : List Pair) : Type 0 where
-  pub same-events : events (answers fresh padded) ≡ events (readOnce fresh (queuePairs acts freshSender))
-  pub same-channel : after fresh padded .«last_channel» ≡ afterOnce fresh (queuePairs acts freshSender) .«last_channel»
-  pub same-field : after fresh padded .«last_received_field» ≡ afterOnce fresh (queuePairs acts freshSender) .«last_received_field»
+pub record AtAnyPadding (queued arrived padded : List Pair) : Type 0 where
+  pub same-events : events (answers fresh padded) ≡ events (readOnce fresh queued)
+  pub same-channel : after fresh padded .«last_channel» ≡ afterOnce fresh queued .«last_channel»
+  pub same-field : after fresh padded .«last_received_field» ≡ afterOnce fresh queued .«last_received_field»
   -- events and refusals in their order
   pub same-said : said (answers fresh padded) ≡ said (answers fresh arrived)
 
 abbrev pub AnyPaddingLaw : Type 0
 AnyPaddingLaw =
-    (acts : List Act) (arrived padded : List Pair) → EndsIdle acts → Line (sentBy acts freshSender) arrived → Repadded fresh arrived padded → AtAnyPadding acts arrived padded
+    (calls : List Call) (arrived padded : List Pair) → noReset calls ≡ true → EndsIdle calls → Line (sentBy calls freshSender) arrived → Repadded fresh arrived padded → AtAnyPadding (queuePairs calls freshSender) arrived padded

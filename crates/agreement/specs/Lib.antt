@@ -1,4 +1,5 @@
 pub mod Agreement
+pub mod AnyFrameRate
 pub mod AnyPadding
 pub mod Doubled
 pub mod FrameRate

@@ -7,10 +7,13 @@ use mathlib.Core.Path.{_≡_}
 use Rattle.code.specs.declared.pair.Pair.{Pair}
 use Rattle.code.specs.Pair.{samePair}
 use Rattle.code.specs.Read.{isCommandPair, isOddPair}
+use Rattle.agreement.specs.Agreement.{All}
+
+abbrev pub IsOdd : Pair → Type 0
+IsOdd p = isOddPair p ≡ true
 
 abbrev pub AllOdd : List Pair → Type 0
-AllOdd [] = Unit
-AllOdd (p ∷ ps) = (isOddPair p ≡ true) × AllOdd ps
+AllOdd ps = All IsOdd ps
 
 abbrev pub wasSpoiled : Option Pair → Pair → Bool
 wasSpoiled none p = false

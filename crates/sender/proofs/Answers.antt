@@ -2,31 +2,22 @@
 -- Assumes nothing.
 use mathlib.Core.Bool.{Bool, true, false}
 use mathlib.Core.List.{List, [], _∷_}
-use mathlib.Core.Path.{_≡_, refl, ap, ap₂, sym, subst, _∙_}
+use mathlib.Core.Path.{_≡_, refl, ap, ap₂, _∙_}
 use Prim.Native.Nat.{ℕ}
 use lib.Dec.{ltb}
 use lib.ListN.{drop, length}
 use Rattle.code.specs.Outcome.{Outcome}
 use Rattle.code.specs.declared.pair.Pair.{Pair}
-use Rattle.sender.proofs.Order.{a-drain-is-sends, count-same, idle-same, sends-stay-good}
-use Rattle.sender.proofs.Refines.{counts-codes, fresh-good, push-good, push-refines, says-whether-idle, send-good, send-refines}
+use Rattle.sender.proofs.Order.{call-stays-good, count-same, idle-same}
+use Rattle.sender.proofs.Refines.{counts-codes, push-refines, says-whether-idle, send-refines}
 use Rattle.sender.proofs.SendsLeft.{sends-refine}
-use Rattle.sender.specs.Calls.{Call, pushing, sending, draining, counting, asking, resetting, sendsIn}
+use Rattle.sender.specs.Calls.{Call, pushing, sending, draining, counting, asking, resetting, Reply, toAsk, toCount, toPush, toSend, onSender, senderReplies}
 use Rattle.sender.specs.Drain.{drainSender, drainedPairs}
 use Rattle.sender.specs.Good.{Good}
-use Rattle.sender.specs.Replies.{Reply, toAsk, toCount, toPush, toSend, drainLists, drainedTo, listReplies, onLists, onSender, senderReplies}
+use Rattle.sender.specs.Replies.{drainLists, drainedTo, listReplies, onLists}
 use Rattle.sender.specs.Sender.{view}
 use Rattle.sender.specs.Sending.{Sending}
 use Rattle.sender.specs.declared.sender.Sender.{Sender}
-
-pub call-stays-good : (c : Call) (s : Sender) → Good s → Good (onSender c s .1)
-call-stays-good (pushing x) s g = push-good s x g
-call-stays-good sending s g = send-good s g
-call-stays-good (draining out start limit) s g =
-    subst Good (sym (a-drain-is-sends s out start limit g)) (sends-stay-good (sendsIn (drainSender s out start limit .0)) s g)
-call-stays-good counting s g = subst Good (sym (count-same s g)) g
-call-stays-good asking s g = subst Good (sym (idle-same s g)) g
-call-stays-good resetting s g = fresh-good
 
 -- what a call of the sender shows: its reply, and the lists of the state beside it
 abbrev shown : Call → Sender → Reply × Sending

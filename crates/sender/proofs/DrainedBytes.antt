@@ -8,11 +8,11 @@ use mathlib.Core.Path.{_≡_, refl, ap, sym, subst, _∙_}
 use Prim.Native.Nat.{ℕ, zero, suc, _+_, _*_, _-_, _≤_, _<_}
 use native.Mathlib.Omega.{arith}
 use lib.ListN.{List·getD-append, drop, getD, length, length-append, length-drop, take}
-use lib.Seq.{getD-append-add, getD-drop, getD-take, length-take-le}
+use lib.Seq.{drop-at, getD-append-add, getD-drop, getD-take, length-take-le}
 use Rattle.code.specs.Outcome.{Outcome}
 use Rattle.code.specs.declared.pair.Pair.{Pair}
 use Rattle.sender.proofs.Lent.{drained-as}
-use Rattle.sender.specs.Drain.{bytesOf, drainSender, drained, drainedPairs, filled}
+use Rattle.sender.specs.Drain.{bytesOf, drainSender, drained, drainedPairs, filled, pairsFrom}
 use Rattle.sender.specs.Sender.{view, wellFormed}
 use Rattle.sender.specs.Sending.{Sending, isIdle, send, sendTimes}
 use Rattle.sender.specs.declared.sender.Sender.{Sender}
@@ -42,6 +42,11 @@ within-the-room (suc limit) (suc (suc room)) v = unless-idle (isIdle v) (within-
 pub two-a-pair : (ps : List Pair) → length (bytesOf ps) ≡ 2 * length ps
 two-a-pair [] = refl
 two-a-pair (p ∷ ps) = omega (arith, two-a-pair ps)
+
+-- read as pairs again, they are the same pairs, whatever comes after
+pub pairs-back : (ps : List Pair) (rest : List ℕ) → pairsFrom (length ps) (bytesOf ps ++ rest) ≡ ps
+pairs-back [] rest = refl
+pairs-back (p ∷ ps) rest = ap (λ (l : List Pair). p ∷ l) (pairs-back ps rest)
 
 -- the output afterwards: as long as it was, and the same before the start and after the last pair
 module _ (out : List ℕ) (start : ℕ) (ps : List Pair) (inside : start ≤ length out) (room : length (bytesOf ps) ≤ length (drop start out)) where
@@ -75,6 +80,11 @@ module _ (out : List ℕ) (start : ℕ) (ps : List Pair) (inside : start ≤ len
   same-behind i d past =
       let at : start + (length (bytesOf ps) + (i - start - length (bytesOf ps))) ≡ i = omega (arith, past) in
       subst (λ (n : ℕ). getD written n d ≡ getD out n d) at (behind-by (i - start - length (bytesOf ps)) d)
+
+  pairs-in-it : pairsFrom (length ps) (drop start written) ≡ ps
+  pairs-in-it =
+      ap (pairsFrom (length ps)) (drop-at (take start out) (filled (drop start out) ps) start front)
+      ∙ pairs-back ps (drop (length (bytesOf ps)) (drop start out))
 
 -- where it stopped: at the limit, with less than a pair of room, or idle
 abbrev pub Stopped : ℕ → ℕ → Sending → List Pair → Type 0
@@ -119,3 +129,9 @@ module _ (s : Sender) (out : List ℕ) (start limit : ℕ) (formed : wellFormed 
   same-after-the-last-pair i d past =
       ap (λ (r : Outcome ℕ × Sender × List ℕ). getD (r .2) i d) drains-as
       ∙ same-behind out start itsPairs inside room i d (omega (arith, past, two-a-pair itsPairs))
+
+  -- the bytes from the start on are those of its pairs
+  pub its-pairs-in-the-output : pairsFrom (length itsPairs) (drop start (drainSender s out start limit .2)) ≡ itsPairs
+  its-pairs-in-the-output =
+      ap (λ (r : Outcome ℕ × Sender × List ℕ). pairsFrom (length itsPairs) (drop start (r .2))) drains-as
+      ∙ pairs-in-it out start itsPairs inside room

@@ -21,11 +21,10 @@ use Rattle.queue.specs.Ring.{popRing, pushRing}
 use Rattle.queue.specs.Ring as ring
 use Rattle.sender.proofs.Refines.{push-good, push-refines}
 use Rattle.sender.proofs.SendsLeft.{says-exactly}
-use Rattle.sender.specs.Calls.{pushing}
+use Rattle.sender.specs.Calls.{pushing, senderAfter}
 use Rattle.sender.specs.Calls as call
 use Rattle.sender.specs.Drain.{sendSenderTimes}
 use Rattle.sender.specs.Good.{Good}
-use Rattle.sender.specs.Replies.{senderAfter}
 use Rattle.sender.specs.Sender.{freshSender, idleSender, pushSender, sendSender, view, wellFormed}
 use Rattle.sender.specs.SendsLeft.{A-acute, fullOf, sendsFor, sendsLeft}
 use Rattle.sender.specs.Sending.{Sending, push, repeating, send, sendingOf}

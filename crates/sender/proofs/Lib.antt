@@ -2,7 +2,9 @@ pub mod Answers
 pub mod DrainedBytes
 pub mod ExactlySoMany
 pub mod Filling
+pub mod FirstInFirstOut
 pub mod IllFormed
+pub mod InCalls
 pub mod Lent
 pub mod NothingLeft
 pub mod OneAnswer

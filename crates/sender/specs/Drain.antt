@@ -1,11 +1,12 @@
 -- The drain, from 01's section "Queue and sender": whole pairs into the part of the output from the given start, until
 -- idle, out of room or at its limit of pairs. 12, then 11: the start lies past the end.
-use Prim.Native.Nat.{ℕ, zero, suc, _+_}
+use Prim.Native.Nat.{ℕ, zero, suc}
 use mathlib.Core.Bool.{cond}
 use mathlib.Core.List.{List, [], _∷_, _++_}
 use lib.Dec.{ltb}
 use lib.ListN.{drop, length, take}
 use Rattle.code.specs.Outcome.{Outcome, answer, refused}
+use Rattle.code.specs.Pair.{pair}
 use Rattle.code.specs.declared.pair.Pair.{Pair}
 use Rattle.sender.specs.Sender.{sendSender, view, wellFormed}
 use Rattle.sender.specs.Sending.{Sending, isIdle, send}
@@ -29,6 +30,13 @@ sendSenderTimes (suc n) s = sendSenderTimes n (sendSender s .1)
 abbrev pub bytesOf : List Pair → List ℕ
 bytesOf [] = []
 bytesOf (p ∷ ps) = p .0 ∷ p .1 ∷ bytesOf ps
+
+-- back: the first n pairs of some bytes, as far as there are whole ones
+abbrev pub pairsFrom : ℕ → List ℕ → List Pair
+pairsFrom zero bytes = []
+pairsFrom (suc n) [] = []
+pairsFrom (suc n) (a ∷ []) = []
+pairsFrom (suc n) (a ∷ b ∷ bytes) = pair a b ∷ pairsFrom n bytes
 
 -- a part with the pairs at its beginning, and after them what was there
 abbrev pub filled : List ℕ → List Pair → List ℕ
