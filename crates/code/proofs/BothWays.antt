@@ -5,8 +5,10 @@ use mathlib.Core.Bool.{true, true≢false}
 use mathlib.Core.Option.{Option, none, some}
 use mathlib.Core.Path.{_≡_, refl, ap, sym, _∙_}
 use Prim.Native.Nat.{ℕ}
+use native.Mathlib.Omega.{arith}
 use borrow.Author.Tests.{eqb-true}
 use lib.ListN.{getD}
+use Rattle.code.proofs.Bytes.{letter-point}
 use Rattle.code.proofs.First.{first-inside, first-passes}
 use Rattle.code.proofs.Numbers.{letter-again, letter-place, letter-small, symbol-again, symbol-place, symbol-small}
 use Rattle.code.proofs.OneAnswer.{clash, same}
@@ -16,12 +18,14 @@ use Rattle.code.specs.Code.{charOf, fromChar, letterCode, symbolCode}
 use Rattle.code.specs.Letter.{letterAt, letterPlace}
 use Rattle.code.specs.Outcome.{answer}
 use Rattle.code.specs.Symbol.{symbolAt, symbolPlace}
+use Rattle.code.specs.Tables.{allPoints}
 use Rattle.code.specs.declared.channel.Channel.{Channel}
 use Rattle.code.specs.declared.code.Code.{Code}
 use Rattle.code.specs.declared.code.Code.the-variants as code
 use Rattle.code.specs.declared.control.CodeField.{CodeField}
 use Rattle.code.specs.declared.control.CodeField.the-variants.{Absent}
 use Rattle.code.specs.declared.control.Control.the-variants as control
+use Rattle.code.specs.declared.control.ControlCode.{ControlCode}
 use Rattle.code.specs.declared.letter.Letter.{Letter}
 use Rattle.code.specs.declared.symbol.Symbol.{Symbol}
 
@@ -57,6 +61,23 @@ by-letter c ch x (some i) place e = ap charOf (sym (same e)) ∙ letter-has c i 
 pub a-characters-code-has-it : (c : ℕ) (ch : Channel) (x : Code) → fromChar c ch ≡ answer x → charOf x ≡ some c
 unfolding fromChar
 a-characters-code-has-it c ch x e = by-letter c ch x (placeOf c standard) refl e
+
+-- every letter has a character
+pub a-letter-has-a-character : (l : Letter) → (c : ℕ) × (charOf (code.Letter l) ≡ some c)
+a-letter-has-a-character l = (getD allPoints (letterPlace l) 0, sym (letter-point (letterPlace l) (letter-small l)))
+
+-- and what a character's code is, if it is no letter: a symbol with no field and the given channel
+symbol-or-not : (ch : Channel) (k : ControlCode) (o : Option ℕ) → symbolCode ch o ≡ answer (code.Control k) → (s : Symbol) × (k ≡ record { field = Absent; channel = ch; control = control.Symbol s })
+symbol-or-not ch k none e = absurd (clash (sym e))
+symbol-or-not ch k (some i) e = (symbolAt i, let z : k ≡ record { field = Absent; channel = ch; control = control.Symbol (symbolAt i) } = cc in z)
+
+by-place : (c : ℕ) (ch : Channel) (k : ControlCode) (o : Option ℕ) → letterCode o (symbolCode ch (placeOf c symbols)) ≡ answer (code.Control k) → (s : Symbol) × (k ≡ record { field = Absent; channel = ch; control = control.Symbol s })
+by-place c ch k none e = symbol-or-not ch k (placeOf c symbols) e
+by-place c ch k (some i) e = let z : _≡_ {A = ℕ} 0 1 = cc in absurd (omega arith)
+
+pub a-characters-control-is-a-symbol : (c : ℕ) (ch : Channel) (k : ControlCode) → fromChar c ch ≡ answer (code.Control k) → (s : Symbol) × (k ≡ record { field = Absent; channel = ch; control = control.Symbol s })
+unfolding fromChar
+a-characters-control-is-a-symbol c ch k e = by-place c ch k (placeOf c standard) e
 
 -- the place of a letter's character is the letter's own
 letter-at-its-place : (l : Letter) (c : ℕ) → charOf (code.Letter l) ≡ some c → placeOf c standard ≡ some (letterPlace l)

@@ -15,6 +15,7 @@ pub mod MeantBack
 pub mod Numbers
 pub mod OneAnswer
 pub mod Ranges
+pub mod ReadBack
 pub mod RoundTrip
 pub mod TableRules
 pub mod Written

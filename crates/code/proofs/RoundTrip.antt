@@ -9,14 +9,19 @@ use lib.Count.{ones, onesIn}
 use lib.Dec.{leb}
 use Rattle.code.proofs.Both.{both-true}
 use Rattle.code.proofs.Agree.{agree, agree-grid}
+use Rattle.code.proofs.OneAnswer.{clash}
 use Rattle.code.specs.Outcome.{Outcome, answer, refused}
 use Rattle.code.specs.Parity.{isOdd, stripped, withParity}
 use Rattle.code.specs.Read.{codesOf, commandOf, isCommand, readPair, single}
 use Rattle.code.specs.Pair.{pair}
-use Rattle.code.specs.Write.{asSingle, together, writeCode, writeTwo}
+use Rattle.code.specs.Write.{asCommand, asSingle, controlBytes, preambleBytes, together, writeCode, writeTwo}
+use Rattle.code.specs.declared.channel.Channel.{Channel}
 use Rattle.code.specs.declared.code.Code.{Code}
 use Rattle.code.specs.declared.code.Code.the-variants as code
+use Rattle.code.specs.declared.control.CodeField.{CodeField}
+use Rattle.code.specs.declared.control.Control.the-variants as control
 use Rattle.code.specs.declared.pair.Pair.{Pair}
+use Rattle.code.specs.declared.preamble.PreambleAddressCode.{PreambleAddressCode}
 
 -- a byte of odd parity is its own data with parity added
 kept : ℕ → ℕ
@@ -79,6 +84,23 @@ read-then-write a b la lb odd =
     rw odd
     (stripped-again (stripped a) (stripped b) (omega arith) (omega arith)
     ∙ ap answer (rw (parity-back a la (h .0), parity-back b lb (h .1))))
+
+-- a command that was read can be written, so that its row, if it has one, is one of the fifteen
+bytes-of-answer : (f : CodeField) (ch : Channel) (o : Outcome Pair) (x : Pair × ℕ) → asCommand f ch o ≡ answer x → (p : Pair) × (o ≡ answer p)
+bytes-of-answer f ch (answer p) x e = (p, refl)
+bytes-of-answer f ch (refused n) x e = absurd (clash (sym e))
+
+row-of-answer : (row : ℕ) (p q : Pair) (t : Bool) → leb row 14 ≡ t → cond t (answer p) (refused 3) ≡ answer q → row < 15
+row-of-answer row p q true e is = omega (arith, leb-true row 14 e)
+row-of-answer row p q false e is = absurd (clash (sym is))
+
+pub row-that-was-read : (a b : ℕ) (p : PreambleAddressCode) → isCommand (stripped a) ≡ true → commandOf (stripped a) (stripped b) .control ≡ control.Preamble p → p .row < 15
+unfolding writeCode
+row-that-was-read a b p is read =
+    let range = command-range (stripped a) is in
+    let c = commandOf (stripped a) (stripped b) in
+    let bytes = bytes-of-answer (c .field) (c .channel) (controlBytes (c .control)) _ (command-again (stripped a) (stripped b) (range .0) (range .1) (omega arith)) in
+    row-of-answer (p .row) (preambleBytes p) (bytes .0) (leb (p .row) 14) refl (sym (ap controlBytes read) ∙ bytes .1)
 
 -- how many pass
 abbrev pub count : (ℕ → Bool) → ℕ → ℕ

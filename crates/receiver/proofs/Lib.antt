@@ -2,3 +2,6 @@ pub mod Codes
 pub mod Copies
 pub mod OneAnswer
 pub mod Step
+pub mod SaidIsHeard
+pub mod TextIsHeard
+pub mod ReportedAgain

@@ -1,3 +1,4 @@
 pub mod Heard
 pub mod Receiver
 pub mod Reading
+pub mod SaidIsHeard
