@@ -8,4 +8,6 @@ pub mod Limits
 pub mod OneByOne
 pub mod QueuedCommands
 pub mod Refused
+pub mod Repadded
+pub mod Settled
 pub mod TriedByHand
