@@ -8,7 +8,7 @@ use Prim.Native.Nat.{ℕ, _+_, _-_, _*_, _≤_, _<_}
 use native.Mathlib.Omega.{arith}
 use lib.ListN.{drop, length, length-append, length-drop, take}
 use lib.Seq.{length-take-le}
-use Rattle.lines.proofs.Waiting.{behind-96, fits, written-and-left}
+use Rattle.lines.proofs.Waiting.{past-the-memory, fits, written-and-left}
 use Rattle.lines.specs.Line.{unwritten, waiting, writes}
 use Rattle.lines.specs.Pieces.{Piece, absorbed, behind, flushedOnly, pieceOf, readListing, readOutcome, stops, withLine}
 use Rattle.lines.specs.declared.listing.Listing.{Listing}
@@ -47,7 +47,7 @@ module _ (l : Listing) (a : ℕ) (rest : List ℕ) (room : ℕ) where
       record {
         taken = omega (arith, k .taken);
         written = omega (arith, k .written, both, fits (l .line) room);
-        less = omega (arith, k .less, both, behind-96 (next .line) 96 (omega arith), written-and-left (l .line) room);
+        less = omega (arith, k .less, both, past-the-memory (next .line) 96 (omega arith), written-and-left (l .line) room);
       }
 
   unless-stopped : Keeps next rest roomLeft later → (t : Bool) → Keeps l (a ∷ rest) room (cond t (flushedOnly l room) (behind (writes (l .line) room) later))
