@@ -28,10 +28,10 @@ from-length bytes at zero = refl
 from-length bytes at (suc n) = ap suc (from-length bytes (at + 1) n)
 
 -- a byte set after those that wait is not among them
-set-behind : (bytes : List ℕ) (at n i b : ℕ) → at + n ≤ i → bytesFrom (set bytes i b) at n ≡ bytesFrom bytes at n
-set-behind bytes at zero i b past = refl
-set-behind bytes at (suc n) i b past =
-    ap₂ _∷_ (getD-set-other bytes i at b 0 (λ (e : at ≡ i). omega (arith, e, past))) (set-behind bytes (at + 1) n i b (omega (arith, past)))
+set-after : (bytes : List ℕ) (at n i b : ℕ) → at + n ≤ i → bytesFrom (set bytes i b) at n ≡ bytesFrom bytes at n
+set-after bytes at zero i b past = refl
+set-after bytes at (suc n) i b past =
+    ap₂ _∷_ (getD-set-other bytes i at b 0 (λ (e : at ≡ i). omega (arith, e, past))) (set-after bytes (at + 1) n i b (omega (arith, past)))
 
 -- and is the last of one more
 from-one-more : (bytes : List ℕ) (at n : ℕ) → bytesFrom bytes at (n + 1) ≡ bytesFrom bytes at n ++ (getD bytes (at + n) 0 ∷ [])
@@ -67,7 +67,7 @@ further-waits l b begun less ahead =
     let more : waiting (further l b) ≡ n + 1 = waiting-is (further l b) (omega (arith, less)) ∙ omega (arith, ahead) in
     ap (bytesFrom (set (l .bytes) (l .len) b) (l .at)) more
     ∙ from-one-more (set (l .bytes) (l .len) b) (l .at) n
-    ∙ ap₂ (λ (xs : List ℕ) (y : ℕ). xs ++ (y ∷ [])) (set-behind (l .bytes) (l .at) n (l .len) b (omega (arith, there)))
+    ∙ ap₂ (λ (xs : List ℕ) (y : ℕ). xs ++ (y ∷ [])) (set-after (l .bytes) (l .at) n (l .len) b (omega (arith, there)))
     (ap (λ (k : ℕ). getD (set (l .bytes) (l .len) b) k 0) there ∙ getD-set-same (l .bytes) (l .len) b 0 (omega (arith, less, begun .places)))
     ∙ ap (λ (k : ℕ). bytesFrom (l .bytes) (l .at) k ++ (b ∷ [])) (sym (waiting-is l (omega (arith, less))))
 

@@ -250,7 +250,7 @@ impl Listing {
         }
     }
 
-    // Whether the last line has been written.
+    // Whether the last line has been written: no call takes or writes anything more.
     pub fn is_done(self) -> bool
         ensures { λ r. ⌜ r ≡ isDone self ⌝ }
     {
@@ -308,7 +308,13 @@ impl Listing {
         }
     }
 
-    // Takes bytes of the input and writes text into the output, as far as there is room. What waits goes first.
+    // Takes bytes of the input and writes text into the output, as far as there is room. What waits goes first, and while
+    // some of it has no room no byte is taken.
+    //
+    // A loop offers again what was not taken, with room for a byte at least, until the input is over; then it calls `end`, and
+    // `read` with no input. `is_done` ends it. Past the limit of pairs the listing ends by itself: after the byte that is
+    // refused 10 nothing more is taken, however often it is offered, so a loop that waits for its input to be taken would
+    // never end.
     pub fn read(self, input: &[u8], output: &mut [u8]) -> Progress
         ensures { λ r. ⌜ readOutcome r (now (output .exit)) ≡ readListing self (now (input .entry)) (now (output .entry)) ⌝ }
     {

@@ -72,8 +72,8 @@ pub(crate) fn put_row(
     let row = put_decimal(out, spaced, preamble.row() as u32);
     let between = put(out, row, 0x20);
     let style = put_decimal(out, between, preamble.code().style() as u32);
-    let behind = put(out, style, 0x20);
-    put(out, behind, flag_digit(preamble.underline()))
+    let after = put(out, style, 0x20);
+    put(out, after, flag_digit(preamble.underline()))
 }
 
 pub(crate) fn put_mid(out: &mut [u8], at: usize, channel: Channel, mid_row: MidRow) -> usize
@@ -82,8 +82,8 @@ pub(crate) fn put_mid(out: &mut [u8], at: usize, channel: Channel, mid_row: MidR
     let said = put_for(out, at, b"mid ", channel);
     let spaced = put(out, said, 0x20);
     let colour = put_decimal(out, spaced, mid_row.number() as u32);
-    let behind = put(out, colour, 0x20);
-    put(out, behind, flag_digit(mid_row.underline()))
+    let after = put(out, colour, 0x20);
+    put(out, after, flag_digit(mid_row.underline()))
 }
 
 pub(crate) fn put_new_mode(out: &mut [u8], at: usize, channel: Channel, mode: Mode) -> usize

@@ -2,7 +2,7 @@
 -- the room that those before it leave.
 -- Assumes nothing.
 use borrow.Author.Needs.{needs}
-use mathlib.Core.List.{[], _∷_, _++_}
+use mathlib.Core.List.{[], _∷_}
 use native.Mathlib.Omega.{arith}
 use lib.ListN.{length-append}
 use Rattle.lines.proofs.Bounds.{eight-digits, event-short}

@@ -9,7 +9,7 @@ use native.Mathlib.Omega.{arith}
 use Rattle.code.specs.Characters.{points}
 use Rattle.lines.proofs.Bounds.{character-short}
 use Rattle.lines.proofs.Puts.{chain, left, same-word, word, _then_}
-use Rattle.lines.specs.Words.{channelDigit, characterWord, flagDigit}
+use Rattle.lines.specs.Words.{characterWord}
 use Rattle.lines.proofs.words.put_text.Statement.{statement}
 use Rattle.lines.proofs.words.put_text.Tie as tie
 
