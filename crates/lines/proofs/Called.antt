@@ -2,7 +2,7 @@
 -- come is the same, and less where the output is full; and where it is not full, all is taken and written.
 -- Assumes nothing.
 use mathlib.Core.List.{List}
-use mathlib.Core.Path.{_≡_, ap, ap₂, sym, _∙_}
+use mathlib.Core.Path.{_≡_, ap, ap₂, _∙_}
 use Prim.Native.Nat.{ℕ, _≤_, _<_}
 use native.Mathlib.Omega.{arith}
 use lib.ListN.{drop, length, length-append, length-drop}
@@ -21,9 +21,9 @@ module _ (l : Listing) (input output : List ℕ) (p : Progress) (after : List �
   unfolding readListing
   takes = ap (λ (x : Read). x .0) promised
 
-  says : p .written ≡ length (piece .text)
+  wrote : p .written ≡ length (piece .text)
   unfolding readListing
-  says = ap (λ (x : Read). x .1) promised
+  wrote = ap (λ (x : Read). x .1) promised
 
   leaves : p .listing ≡ piece .next
   unfolding readListing
@@ -39,7 +39,7 @@ module _ (l : Listing) (input output : List ℕ) (p : Progress) (after : List �
   takes-no-more = omega (arith, takes, no-more-than-offered input l (length output))
 
   pub writes-no-more : p .written ≤ length output
-  writes-no-more = omega (arith, says, no-more-than-room input l (length output))
+  writes-no-more = omega (arith, wrote, no-more-than-room input l (length output))
 
   -- what is still to come of the input
   abbrev rest : Piece
@@ -53,9 +53,9 @@ module _ (l : Listing) (input output : List ℕ) (p : Progress) (after : List �
 
   pub less-to-write : 0 < length output → length after ≤ p .written → length (rest .text) < length (wholePiece l input .text)
   less-to-write some full =
-      omega (arith, same-room, says, some, full, ap (λ (x : Piece). length (x .text)) rest-is, ap (λ (x : Piece). length (x .text)) (calls-add-up input l (length output)), length-append (piece .text) (wholePiece (piece .next) (drop (piece .taken) input) .text))
+      omega (arith, same-room, wrote, some, full, ap (λ (x : Piece). length (x .text)) rest-is, ap (λ (x : Piece). length (x .text)) (calls-add-up input l (length output)), length-append (piece .text) (wholePiece (piece .next) (drop (piece .taken) input) .text))
 
   pub all-where-not-full : p .written < length after → p .listing ≡ wholePiece l input .next
   all-where-not-full room =
       leaves
-      ∙ ap (λ (x : Piece). x .next) (through-if-not-full input l (length output) (omega (arith, room, same-room, says)))
+      ∙ ap (λ (x : Piece). x .next) (through-if-not-full input l (length output) (omega (arith, room, same-room, wrote)))

@@ -126,32 +126,32 @@ module _ (bytes : List ℕ) where
       inr (all-taken bytes freshListing)
 
   -- as cuts
-  abbrev reading : Cut
-  reading = record { offered = length bytes; room = suc (length (whole .text)) }
+  abbrev firstCut : Cut
+  firstCut = record { offered = length bytes; room = suc (length (whole .text)) }
 
-  abbrev ending : Cut
-  ending = record { offered = 0; room = suc (length (pending (ended .line))) }
+  abbrev lastCut : Cut
+  lastCut = record { offered = 0; room = suc (length (pending (ended .line))) }
 
-  abbrev last : Run → Run
-  last r = cutAll (ending ∷ []) (atEnd r)
+  abbrev afterEnd : Run → Run
+  afterEnd r = cutAll (lastCut ∷ []) (atEnd r)
 
-  read-so : cutAll (reading ∷ []) start ≡ through start
+  read-so : cutAll (firstCut ∷ []) start ≡ through start
   read-so =
       all-offered start (suc (length (whole .text)))
       ∙ ap (afterPiece start) (with-room-for-all bytes freshListing (suc (length (whole .text))) (omega arith))
 
-  last-so : last (through start) ≡ afterPiece (atEnd (through start)) (writtenOut ended)
+  last-so : afterEnd (through start) ≡ afterPiece (atEnd (through start)) (writtenOut ended)
   last-so = ap (afterPiece (atEnd (through start))) (with-room-for-all [] ended (suc (length (pending (ended .line)))) (omega arith))
 
-  done-so : isDone (last (through start) .listing) ≡ true
+  done-so : isDone (afterEnd (through start) .listing) ≡ true
   done-so = ap (λ (r : Run). isDone (r .listing)) last-so ∙ end-is-ended (whole .next)
 
   pub in-one-go : whole .text ++ pending (ended .line) ≡ listing bytes
   in-one-go =
       sym (ap (λ (r : Run). r .text) last-so)
-      ∙ sym (ap (λ (r : Run). last r .text) read-so)
-      ∙ any-cutting bytes (reading ∷ []) (ending ∷ []) (subst Finished (sym read-so) finished)
-      (subst (λ (r : Run). isDone (last r .listing) ≡ true) (sym read-so) done-so)
+      ∙ sym (ap (λ (r : Run). afterEnd r .text) read-so)
+      ∙ any-cutting bytes (firstCut ∷ []) (lastCut ∷ []) (subst Finished (sym read-so) finished)
+      (subst (λ (r : Run). isDone (afterEnd r .listing) ≡ true) (sym read-so) done-so)
 
   lengths : length (whole .text) + length (pending (ended .line)) ≡ length (listing bytes)
   lengths = sym (length-append (whole .text) (pending (ended .line))) ∙ ap length in-one-go
