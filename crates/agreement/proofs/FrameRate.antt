@@ -1,183 +1,295 @@
--- The frame-rate law: padding put in or taken out, at any places where no repeat is awaited, changes no event, no
--- refusal, not their order, nor the channel or the field at the end, and no later pair distinguishes the two states.
--- And a case that shows its limit: with padding between the two copies of a carriage return, it scrolls twice.
+-- The frame-rate law: padding at a place changes no answer to another pair, nor the channel or the field at the end,
+-- exactly where it is harmless. Each direction is a law of its own, of a state of any contents.
 -- Assumes nothing.
-use mathlib.Core.Bool.{Bool, true, false, cond, _&&_, true≢false}
+use mathlib.Core.Bool.{Bool, true, false, cond, not, _&&_, _||_, true≢false}
 use mathlib.Core.List.{List, [], _∷_}
 use mathlib.Core.Logic.{_⊎_, inl, inr, ⊎-elim}
-use mathlib.Core.Option.{Option, none, some}
+use mathlib.Core.Option.{Option, none, some, Option·some-injective}
 use mathlib.Core.Path.{_≡_, refl, ap, subst, sym, _∙_}
-use lib.Count.{ones, onesIn}
+use Prim.Native.Nat.{ℕ}
+use native.Mathlib.Omega.{arith}
 use lib.Dec.{eqb}
 use borrow.Author.Tests.{eqb-true}
-use Rattle.code.proofs.Written.{command-by-first-byte, padding-read}
-use Rattle.code.specs.Channel.{channelOne}
+use Rattle.code.proofs.Both.{both-true}
+use Rattle.code.proofs.OneAnswer.{same}
+use Rattle.code.proofs.Written.{command-by-first-byte, odd-is-read, padding-read, read-as-command}
 use Rattle.code.specs.Outcome.{Outcome, answer, refused}
-use Rattle.code.specs.Parity.{stripped}
-use Rattle.code.specs.Read.{isCommand, readPair}
+use Rattle.code.specs.Parity.{isOdd, stripped}
+use Rattle.code.specs.Pair.{samePair}
+use Rattle.code.specs.Read.{isCommand, isCommandPair, isOddPair, readPair}
 use Rattle.code.specs.declared.code.Code.{Code}
 use Rattle.code.specs.declared.code.Code.the-variants as code
 use Rattle.code.specs.declared.control.ControlCode.{ControlCode}
 use Rattle.code.specs.declared.pair.Pair.{Pair}
 use Rattle.event.specs.declared.event.Cea608.{Cea608}
-use Rattle.event.specs.declared.event.Cea608.the-variants as event
-use Rattle.agreement.specs.FrameRate.{Alike, FrameRateLaw, Quiet, Repadded, awaits}
-use Rattle.agreement.specs.FrameRate as repadded
-use Rattle.agreement.specs.Pairs.{carriageReturn, hi, padding}
-use Rattle.receiver.specs.Reading.{after, answers, events, said}
-use Rattle.receiver.specs.Receiver.{afterReading, fieldAfter, fresh, heardCodes, heardText, isLast, state, step, Stepped, textFor}
+use Rattle.agreement.specs.FrameRate.{FrameRateLaw, MayRepad, ReadAlike, SetBy, Settled, Unchanged, awaits, commandIn, harmless, isNone, isSilent, nextRead, noRepeat}
+use Rattle.agreement.specs.Pairs.{padding}
+use Rattle.agreement.proofs.OneByOne.{same-is-equal}
+use Rattle.agreement.proofs.Settled.{reached-is-settled}
+use Rattle.receiver.proofs.Copies.{last-is-last}
+use Rattle.receiver.proofs.Step.{IsCommand, command-acts, command-once, even-is-refused-1, repeat-is-skipped}
+use Rattle.receiver.specs.Heard.{eventOf}
+use Rattle.receiver.specs.Reading.{after, answers}
+use Rattle.receiver.specs.Receiver.{afterReading, fieldAfter, fresh, heardCodes, isLast, state, step, Stepped, textFor}
 use Rattle.receiver.specs.declared.state.Cea608State.{Cea608State}
 use Rattle.receiver.specs.declared.state.LastChannel.{LastChannel}
 use Rattle.receiver.specs.declared.state.LastChannel.the-variants as channel
+use Rattle.receiver.specs.declared.state.LastField.{LastField}
 use Rattle.receiver.specs.declared.state.LastPair.{LastPair}
 use Rattle.receiver.specs.declared.state.LastPair.the-variants as last
 
-pub alike-itself : (s : Cea608State) → Alike s s
-alike-itself s = record { same-channel = refl; same-field = refl; same-wait = inl refl }
-
-differs : (t u : Bool) → (t ≡ true → ⊥) → t && u ≡ false
-differs true u h = absurd (h refl)
-differs false u h = refl
+not-both : (t u : Bool) → (t ≡ true → ⊥) → t && u ≡ false
+not-both true u h = absurd (h refl)
+not-both false u h = refl
 
 -- where no repeat is awaited, a command is never the last pair
 pub quiet-is-no-repeat : (p : Pair) (c : ControlCode) (y : Code) (l : LastPair) → readPair (p .0) (p .1) ≡ answer (code.Control c, y) → awaits l ≡ false → isLast p l ≡ false
 quiet-is-no-repeat p c y last.Absent e quiet = refl
 quiet-is-no-repeat p c y (last.Was q) e quiet =
-    differs (eqb (q .0) (p .0)) (eqb (q .1) (p .1))
+    not-both (eqb (q .0) (p .0)) (eqb (q .1) (p .1))
     (λ (t : eqb (q .0) (p .0) ≡ true).
     true≢false
     (sym (command-by-first-byte (p .0) (p .1) c y e)
-    ∙ sym (ap (λ (b : Prim.Native.Nat.ℕ). isCommand (stripped b)) (eqb-true (q .0) (p .0) t))
+    ∙ sym (ap (λ (b : ℕ). isCommand (stripped b)) (eqb-true (q .0) (p .0) t))
     ∙ quiet))
-
-module _ (s t : Cea608State) (p : Pair) (a : Alike s t) where
-  -- alike states judge a repeat alike
-  same-test : (c : ControlCode) (y : Code) → readPair (p .0) (p .1) ≡ answer (code.Control c, y) → isLast p (s .«last_data») ≡ isLast p (t .«last_data»)
-  same-test c y e =
-      ⊎-elim
-      (λ (same : s .«last_data» ≡ t .«last_data»). ap (isLast p) same)
-      (λ (quiet : Quiet s × Quiet t).
-      quiet-is-no-repeat p c y (s .«last_data») e (quiet .0) ∙ sym (quiet-is-no-repeat p c y (t .«last_data») e (quiet .1)))
-      (a .same-wait)
-
-  -- and give alike answers and states
-  abbrev AlikeSteps : Stepped → Stepped → Type 0
-  AlikeSteps x y = (x .0 ≡ y .0) × Alike (x .1) (y .1)
-
-  either : (u : Bool) (x y v w : Stepped) → AlikeSteps x v → AlikeSteps y w → AlikeSteps (cond u x y) (cond u v w)
-  either true x y v w h k = h
-  either false x y v w h k = k
-
-  alike-text : (x y : Code) → AlikeSteps (heardText s p x y) (heardText t p x y)
-  alike-text x y = (
-    ap (λ (ch : LastChannel). answer (textFor ch x y)) (a .same-channel),
-    record { same-channel = a .same-channel; same-field = a .same-field; same-wait = inl refl },
-  )
-
-  alike-codes : (x y : Code) → readPair (p .0) (p .1) ≡ answer (x, y) → AlikeSteps (heardCodes s p x y) (heardCodes t p x y)
-  alike-codes (code.Control c) y e =
-      rw (same-test c y e)
-      (either (isLast p (t .«last_data»)) _ _ _ _
-      (refl, record { same-channel = a .same-channel; same-field = a .same-field; same-wait = inl refl }) (
-        refl,
-        record {
-          same-channel = refl;
-          same-field = ap (fieldAfter (c .field)) (a .same-field);
-          same-wait = inl refl;
-        },
-      ))
-  alike-codes code.Nul y e = alike-text code.Nul y
-  alike-codes (code.Letter l) y e = alike-text (code.Letter l) y
-  alike-codes (code.Unknown b) y e = alike-text (code.Unknown b) y
-
-  alike-reading : (o : Outcome (Code × Code)) → readPair (p .0) (p .1) ≡ o → AlikeSteps (afterReading s p o) (afterReading t p o)
-  alike-reading (answer codes) e = alike-codes (codes .0) (codes .1) e
-  alike-reading (refused n) e = (refl, a)
-
-  pub alike-steps : AlikeSteps (step s p) (step t p)
-  alike-steps = alike-reading (readPair (p .0) (p .1)) refl
 
 -- padding gives no event and leaves channel and field
 no-text : (ch : LastChannel) → textFor ch code.Nul code.Nul ≡ none
 no-text channel.Absent = refl
 no-text (channel.Known ch) = refl
 
-pub padding-step : (s : Cea608State) → step s padding ≡ (answer none, state (last.Was padding) (s .«last_channel») (s .«last_received_field»))
+abbrev afterPadding : Cea608State → Cea608State
+afterPadding s = state (last.Was padding) (s .«last_channel») (s .«last_received_field»)
+
+pub padding-step : (s : Cea608State) → step s padding ≡ (answer none, afterPadding s)
 padding-step s = ap (afterReading s padding) padding-read ∙ rw (no-text (s .«last_channel»))
 
--- an answer before two lists that report the same
-said-behind : (o : Outcome (Option Cea608)) (os qs : List (Outcome (Option Cea608))) → said os ≡ said qs → said (o ∷ os) ≡ said (o ∷ qs)
-said-behind (answer none) os qs e = e
-said-behind (answer (some x)) os qs e = ap (λ (l : List (Outcome (Option Cea608))). answer (some x) ∷ l) e
-said-behind (refused n) os qs e = ap (λ (l : List (Outcome (Option Cea608))). refused n ∷ l) e
+-- a pair that is not the awaited repeat: another than the last pair, or none is awaited
+abbrev Other : Pair → LastPair → Type 0
+Other p l = (isLast p l ≡ false) ⊎ (awaits l ≡ false)
 
--- the events are among what was reported
-events-said : (os : List (Outcome (Option Cea608))) → events (said os) ≡ events os
-events-said [] = refl
-events-said (answer none ∷ os) = events-said os
-events-said (answer (some x) ∷ os) = ap (λ (l : List Cea608). x ∷ l) (events-said os)
-events-said (refused n ∷ os) = events-said os
+-- such a pair is read alike from any two states of one channel and field, whatever their last pairs
+module _ (p : Pair) (l m : LastPair) (ch : LastChannel) (f : LastField) where
+  no-repeat : (c : ControlCode) (y : Code) (k : LastPair) → readPair (p .0) (p .1) ≡ answer (code.Control c, y) → Other p k → isLast p k ≡ false
+  no-repeat c y k e = ⊎-elim (λ other. other) (λ quiet. quiet-is-no-repeat p c y k e quiet)
 
-quiet-too : (s t : Cea608State) → Alike s t → Quiet s → Quiet t
-quiet-too s t a quiet =
-    ⊎-elim
-    (λ (same : s .«last_data» ≡ t .«last_data»). subst (λ (l : LastPair). awaits l ≡ false) same quiet)
-    (λ (both : Quiet s × Quiet t). both .1)
-    (a .same-wait)
+  codes-alike : (x y : Code) → readPair (p .0) (p .1) ≡ answer (x, y) → Other p l → Other p m → heardCodes (state l ch f) p x y ≡ heardCodes (state m ch f) p x y
+  codes-alike (code.Control c) y e one two = rw (no-repeat c y l e one, no-repeat c y m e two)
+  codes-alike code.Nul y e one two = refl
+  codes-alike (code.Letter k) y e one two = refl
+  codes-alike (code.Unknown b) y e one two = refl
 
--- padding read on one side only
-padded-second : (s t : Cea608State) → Alike s t → Quiet s → Alike s (step t padding .1)
-padded-second s t a quiet =
-    rw (padding-step t)
-    (record { same-channel = a .same-channel; same-field = a .same-field; same-wait = inr (quiet, refl) })
+  others-alike : isOddPair p ≡ true → Other p l → Other p m → step (state l ch f) p ≡ step (state m ch f) p
+  others-alike odd one two =
+      let e = odd-is-read (p .0) (p .1) odd in
+      ap (afterReading (state l ch f) p) e
+      ∙ codes-alike _ _ e one two
+      ∙ sym (ap (afterReading (state m ch f) p) e)
 
-padded-first : (s t : Cea608State) → Alike s t → Quiet s → Alike (step s padding .1) t
-padded-first s t a quiet =
-    rw (padding-step s)
-    (record { same-channel = a .same-channel; same-field = a .same-field; same-wait = inr (refl, quiet-too s t a quiet) })
+-- a pair with the same answer from two states, which read the rest alike afterwards
+module _ (s t : Cea608State) (p : Pair) (ps : List Pair) where
+  abbrev channelFrom : Stepped → LastChannel
+  channelFrom x = after (x .1) ps .«last_channel»
 
-padding-unheard : (s : Cea608State) (os : List (Outcome (Option Cea608))) → said (step s padding .0 ∷ os) ≡ said os
-padding-unheard s os = rw (padding-step s)
+  abbrev fieldFrom : Stepped → LastField
+  fieldFrom x = after (x .1) ps .«last_received_field»
 
-abbrev SameHeard : Cea608State → List Pair → Cea608State → List Pair → Type 0
-SameHeard s ps t qs = (said (answers s ps) ≡ said (answers t qs)) × Alike (after s ps) (after t qs)
+  equal-from-here : step s p ≡ step t p → ReadAlike s t (p ∷ ps)
+  equal-from-here e = record {
+    same-answers = ap (λ (x : Stepped). x .0 ∷ answers (x .1) ps) e;
+    same-channel = ap channelFrom e;
+    same-field = ap fieldFrom e;
+  }
 
-heard-alike : (s t : Cea608State) (ps qs : List Pair) → Repadded s ps qs → Alike s t → SameHeard s ps t qs
-heard-alike s t ps qs repadded.ends a = (refl, a)
-heard-alike s t ps qs (repadded.keeps {p = p} {ps = ps′} {qs = qs′} r) a =
-    let now = alike-steps s t p a in
-    let later = heard-alike (step s p .1) (step t p .1) ps′ qs′ r (now .1) in (
-      said-behind (step s p .0) (answers (step s p .1) ps′) (answers (step t p .1) qs′) (later .0) ∙ ap (λ (o : Outcome (Option Cea608)). said (o ∷ answers (step t p .1) qs′)) (now .0),
-      later .1,
-    )
-heard-alike s t ps qs (repadded.puts-in {qs = qs′} quiet r) a =
-    let later = heard-alike s (step t padding .1) ps qs′ r (padded-second s t a quiet) in
-    (later .0 ∙ sym (padding-unheard t (answers (step t padding .1) qs′)), later .1)
-heard-alike s t ps qs (repadded.takes-out {ps = ps′} quiet r) a =
-    let later = heard-alike (step s padding .1) t ps′ qs r (padded-first s t a quiet) in
-    (padding-unheard s (answers (step s padding .1) ps′) ∙ later .0, later .1)
+  alike-from-here : (s′ t′ : Cea608State) (o : Outcome (Option Cea608)) → step s p ≡ (o, s′) → step t p ≡ (o, t′) → ReadAlike s′ t′ ps → ReadAlike s t (p ∷ ps)
+  alike-from-here s′ t′ o one two a = record {
+    same-answers = rw (one, two) (ap (λ (os : List (Outcome (Option Cea608))). o ∷ os) (a .same-answers));
+    same-channel = ap channelFrom one ∙ a .same-channel ∙ sym (ap channelFrom two);
+    same-field = ap fieldFrom one ∙ a .same-field ∙ sym (ap fieldFrom two);
+  }
 
-pub frame-rate-law : FrameRateLaw
-frame-rate-law s ps qs r =
-    let h = heard-alike s s ps qs r (alike-itself s) in
-    record {
-      same-events = sym (events-said (answers s ps)) ∙ ap events (h .0) ∙ events-said (answers s qs);
-      same-said = h .0;
-      ends-alike = h .1;
+  refused-alike : isOddPair p ≡ false → ReadAlike s t ps → ReadAlike s t (p ∷ ps)
+  refused-alike even a = alike-from-here s t (refused 1) (even-is-refused-1 s p even) (even-is-refused-1 t p even) a
+
+-- the cases (a), (b) and (c)
+by-cases : (w r : Bool) → (not w || false || not r) ≡ true → (r ≡ false) ⊎ (w ≡ false)
+by-cases true true e = absurd (true≢false (sym e))
+by-cases true false e = inl refl
+by-cases false r e = inr refl
+
+module _ (s : Cea608State) where
+  no-repeat-alike : (rest : List Pair) → noRepeat (s .«last_data») (nextRead rest) ≡ true → ReadAlike s (afterPadding s) rest
+  no-repeat-alike [] h = record { same-answers = refl; same-channel = refl; same-field = refl }
+  no-repeat-alike (p ∷ ps) h = first (isOddPair p) refl h (no-repeat-alike ps)
+    where
+      first : (t : Bool) → isOddPair p ≡ t → noRepeat (s .«last_data») (cond t (some p) (nextRead ps)) ≡ true → (noRepeat (s .«last_data») (nextRead ps) ≡ true → ReadAlike s (afterPadding s) ps) → ReadAlike s (afterPadding s) (p ∷ ps)
+      first true odd is go =
+          equal-from-here s (afterPadding s) p ps
+          (others-alike p (s .«last_data») (last.Was padding) (s .«last_channel») (s .«last_received_field») odd
+          (by-cases (awaits (s .«last_data»)) (isLast p (s .«last_data»)) is) (inr refl))
+      first false even is go = refused-alike s (afterPadding s) p ps even (go is)
+
+-- a command pair that is not refused
+read-so : (p : Pair) → isOddPair p ≡ true → isCommandPair p ≡ true → IsCommand p (commandIn p)
+read-so p odd is =
+    let b = both-true (isOdd (p .0)) (isOdd (p .1)) odd in
+    (code.Nul, read-as-command (p .0) (p .1) (b .0) (b .1) is)
+
+-- the case (d): a command that has no event, whose channel and field are set already, and two states of which each has it
+-- for the last pair or awaits no repeat
+module _ (p : Pair) (odd : isOddPair p ≡ true) (is : isCommandPair p ≡ true) (ch : LastChannel) (f : LastField) where
+  abbrev Near : LastPair → Type 0
+  Near l = (l ≡ last.Was p) ⊎ (awaits l ≡ false)
+
+  -- it leaves such a state, whether it acts or is skipped
+  record Silently (l : LastPair) : Type 0 where
+    left : LastPair
+    near : Near left
+    steps : step (state l ch f) p ≡ (answer none, state left ch f)
+
+  module _ (silent : eventOf (commandIn p) ≡ none) (ch-set : channel.Known (commandIn p .channel) ≡ ch) (f-set : fieldAfter (commandIn p .field) f ≡ f) where
+    silently : (l : LastPair) → Near l → Silently l
+    silently l (inl e) = record {
+      left = last.Absent;
+      near = inr refl;
+      steps = repeat-is-skipped (state l ch f) p (commandIn p) (read-so p odd is) (ap (isLast p) e ∙ last-is-last p);
+    }
+    silently l (inr quiet) = record {
+      left = last.Was p;
+      near = inl refl;
+      steps =
+          command-acts (state l ch f) p (commandIn p) (read-so p odd is) (quiet-is-no-repeat p (commandIn p) (read-so p odd is .0) l (read-so p odd is .1) quiet)
+          ∙ rw (silent, ch-set, f-set);
     }
 
--- a doubled carriage return and text, with padding put in before them, after the two copies and after the text
-pub padded-in-three-places : Repadded fresh (carriageReturn ∷ carriageReturn ∷ hi ∷ []) (padding ∷ carriageReturn ∷ carriageReturn ∷ padding ∷ hi ∷ padding ∷ [])
-unfolding readPair ones onesIn
-padded-in-three-places =
-    repadded.puts-in refl
-    (repadded.keeps (repadded.keeps (repadded.puts-in refl (repadded.keeps (repadded.puts-in refl repadded.ends)))))
+    near-other : (q : Pair) (l : LastPair) → samePair p q ≡ false → Near l → Other q l
+    near-other q l e (inl was) = inl (ap (isLast q) was ∙ e)
+    near-other q l e (inr quiet) = inr quiet
 
--- its limit: a carriage return and its repeat scroll once; with padding between them, twice
-pub doubled-scrolls-once : events (answers fresh (carriageReturn ∷ carriageReturn ∷ [])) ≡ event.CarriageReturn channelOne ∷ []
-unfolding readPair ones onesIn
-doubled-scrolls-once = refl
+    silent-alike : (rest : List Pair) (l m : LastPair) → Near l → Near m → ReadAlike (state l ch f) (state m ch f) rest
+    silent-alike [] l m nl nm = record { same-answers = refl; same-channel = refl; same-field = refl }
+    silent-alike (q ∷ qs) l m nl nm =
+        first (isOddPair q) (samePair p q) refl refl (silent-alike qs)
+      where
+        first : (o e : Bool) → isOddPair q ≡ o → samePair p q ≡ e → ((l m : LastPair) → Near l → Near m → ReadAlike (state l ch f) (state m ch f) qs) → ReadAlike (state l ch f) (state m ch f) (q ∷ qs)
+        first false e even k go = refused-alike (state l ch f) (state m ch f) q qs even (go l m nl nm)
+        first true false fine k go =
+            equal-from-here (state l ch f) (state m ch f) q qs
+            (others-alike q l m ch f fine (near-other q l k nl) (near-other q m k nm))
+        first true true fine k go =
+            let one = silently l nl in
+            let two = silently m nm in
+            rw (← same-is-equal p q k)
+            (alike-from-here (state l ch f) (state m ch f) p qs (state (one .left) ch f) (state (two .left) ch f) (answer none)
+            (one .steps) (two .steps) (go (one .left) (two .left) (one .near) (two .near)))
 
-pub padded-inside-scrolls-twice : events (answers fresh (carriageReturn ∷ padding ∷ carriageReturn ∷ [])) ≡ event.CarriageReturn channelOne ∷ event.CarriageReturn channelOne ∷ []
-unfolding readPair ones onesIn
-padded-inside-scrolls-twice = refl
+-- where none of (a), (b) and (c) holds, the awaited repeat is next
+record RepeatNext (l : LastPair) (next : Option Pair) : Type 0 where
+  awaited : Pair
+  is-last : l ≡ last.Was awaited
+  is-next : next ≡ some awaited
+  command : isCommandPair awaited ≡ true
+
+none-next : (w : Bool) → (not w || true || false) ≡ false → ⊥
+none-next true e = true≢false e
+none-next false e = true≢false e
+
+both-so : (w r : Bool) → (not w || false || not r) ≡ false → (w ≡ true) × (r ≡ true)
+both-so true true e = (refl, refl)
+both-so true false e = absurd (true≢false e)
+both-so false r e = absurd (true≢false e)
+
+repeat-next : (l : LastPair) (next : Option Pair) → noRepeat l next ≡ false → RepeatNext l next
+repeat-next last.Absent next e = absurd (true≢false e)
+repeat-next (last.Was p) none e = absurd (none-next (isCommandPair p) e)
+repeat-next (last.Was p) (some q) e =
+    let so = both-so (isCommandPair p) (samePair p q) e in
+    record { awaited = p; is-last = refl; is-next = ap {B = Option Pair} some (sym (same-is-equal p q (so .1))); command = so .0 }
+
+next-is-odd : (rest : List Pair) (p : Pair) → nextRead rest ≡ some p → isOddPair p ≡ true
+next-is-odd [] p e = absurd (let z : _≡_ {A = ℕ} 0 1 = cc in omega arith)
+next-is-odd (q ∷ qs) p e = first (isOddPair q) refl e (next-is-odd qs p)
+  where
+    first : (t : Bool) → isOddPair q ≡ t → cond t (some q) (nextRead qs) ≡ some p → (nextRead qs ≡ some p → isOddPair p ≡ true) → isOddPair p ≡ true
+    first true odd is go = ap isOddPair (sym (Option·some-injective q p is)) ∙ odd
+    first false even is go = go is
+
+no-event : (o : Option Cea608) → isNone o ≡ true → o ≡ none
+no-event none e = refl
+no-event (some x) e = absurd (true≢false (sym e))
+
+-- one direction, from a state of any contents
+module _ (s : Cea608State) (rest : List Pair) where
+  silent-repeat : (p : Pair) → s .«last_data» ≡ last.Was p → isOddPair p ≡ true → isCommandPair p ≡ true → SetBy (last.Was p) s → isSilent (last.Was p) ≡ true → ReadAlike s (afterPadding s) rest
+  silent-repeat p was odd is set silent =
+      let acted = command-once s p (commandIn p) (read-so p odd is) in
+      silent-alike p odd is (s .«last_channel») (s .«last_received_field») (no-event (eventOf (commandIn p)) silent)
+      (sym (ap (λ (x : Stepped). x .1 .«last_channel») acted) ∙ set .0)
+      (sym (ap (λ (x : Stepped). x .1 .«last_received_field») acted) ∙ set .1)
+      rest (s .«last_data») (last.Was padding) (inl was) (inr refl)
+
+  repadded-alike : (t : Bool) → noRepeat (s .«last_data») (nextRead rest) ≡ t → (t || isSilent (s .«last_data»)) ≡ true → (t ≡ false → Settled s) → ReadAlike s (afterPadding s) rest
+  repadded-alike true e fine settled = no-repeat-alike s rest e
+  repadded-alike false e fine settled =
+      let r = repeat-next (s .«last_data») (nextRead rest) e in
+      silent-repeat (r .awaited) (r .is-last) (next-is-odd rest (r .awaited) (r .is-next)) (r .command)
+      (subst (λ (l : LastPair). SetBy l s) (r .is-last) (settled refl))
+      (subst (λ (l : LastPair). isSilent l ≡ true) (r .is-last) fine)
+
+  pub may-repad-changes-nothing : MayRepad s rest → Unchanged s rest
+  may-repad-changes-nothing may =
+      rw (padding-step s)
+      (repadded-alike (noRepeat (s .«last_data») (nextRead rest)) refl (may .does-no-harm) (may .is-settled))
+
+-- The other direction: padding before an awaited repeat makes it act, so the answer to it stays the same only where the
+-- command has no event.
+heads-equal : {A : Type 0} {x y : A} {xs ys : List A} → (x ∷ xs) ≡ (y ∷ ys) → x ≡ y
+heads-equal e = cc
+
+tails-equal : {A : Type 0} {x y : A} {xs ys : List A} → (x ∷ xs) ≡ (y ∷ ys) → xs ≡ ys
+tails-equal e = cc
+
+module _ (s : Cea608State) (p : Pair) (was : s .«last_data» ≡ last.Was p) (is : isCommandPair p ≡ true) where
+  silent-if-unnoticed : isOddPair p ≡ true → step s p .0 ≡ step (afterPadding s) p .0 → eventOf (commandIn p) ≡ none
+  silent-if-unnoticed odd e =
+      let k = read-so p odd is in
+      let skipped = repeat-is-skipped s p (commandIn p) k (ap (isLast p) was ∙ last-is-last p) in
+      let acted = command-acts (afterPadding s) p (commandIn p) k (quiet-is-no-repeat p (commandIn p) (k .0) (last.Was padding) (k .1) refl) in
+      sym
+      (same
+      (sym (ap (λ (x : Stepped). x .0) skipped) ∙ e ∙ ap (λ (x : Stepped). x .0) acted))
+
+  silent-if-unchanged : (rest : List Pair) → nextRead rest ≡ some p → answers s rest ≡ answers (afterPadding s) rest → eventOf (commandIn p) ≡ none
+  silent-if-unchanged [] next e = absurd (let z : _≡_ {A = ℕ} 0 1 = cc in omega arith)
+  silent-if-unchanged (q ∷ qs) next e = first (isOddPair q) refl next (silent-if-unchanged qs)
+    where
+      first : (t : Bool) → isOddPair q ≡ t → cond t (some q) (nextRead qs) ≡ some p → (nextRead qs ≡ some p → answers s qs ≡ answers (afterPadding s) qs → eventOf (commandIn p) ≡ none) → eventOf (commandIn p) ≡ none
+      first false even is-next go =
+          go is-next (tails-equal (rw (even-is-refused-1 s q even, even-is-refused-1 (afterPadding s) q even) at e))
+      first true odd is-next go =
+          let q-is-p = Option·some-injective q p is-next in
+          silent-if-unnoticed (subst (λ (x : Pair). isOddPair x ≡ true) q-is-p odd)
+          (subst (λ (x : Pair). step s x .0 ≡ step (afterPadding s) x .0) q-is-p (heads-equal e))
+
+module _ (s : Cea608State) (rest : List Pair) where
+  silent-or-not-next : (t : Bool) → noRepeat (s .«last_data») (nextRead rest) ≡ t → answers s rest ≡ answers (afterPadding s) rest → (t || isSilent (s .«last_data»)) ≡ true
+  silent-or-not-next true e unchanged = refl
+  silent-or-not-next false e unchanged =
+      let r = repeat-next (s .«last_data») (nextRead rest) e in
+      ap isSilent (r .is-last)
+      ∙ ap isNone (silent-if-unchanged s (r .awaited) (r .is-last) (r .command) rest (r .is-next) unchanged)
+
+  pub unchanged-is-harmless : Unchanged s rest → harmless s rest ≡ true
+  unchanged-is-harmless u =
+      silent-or-not-next (noRepeat (s .«last_data») (nextRead rest)) refl
+      (u .same-answers ∙ ap (λ (x : Stepped). answers (x .1) rest) (padding-step s))
+
+-- from a fresh receiver on, harmless is enough
+pub reached-may-repad : (before rest : List Pair) → harmless (after fresh before) rest ≡ true → MayRepad (after fresh before) rest
+reached-may-repad before rest fine = record { does-no-harm = fine; is-settled = λ next. reached-is-settled before }
+
+pub frame-rate-law : FrameRateLaw
+frame-rate-law before rest = (
+  λ fine. may-repad-changes-nothing (after fresh before) rest (reached-may-repad before rest fine),
+  unchanged-is-harmless (after fresh before) rest,
+)

@@ -9,4 +9,6 @@ pub mod Limits
 pub mod OneByOne
 pub mod QueuedCommands
 pub mod Refused
+pub mod Repadded
+pub mod Settled
 pub mod TriedByHand

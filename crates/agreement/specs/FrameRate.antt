@@ -1,15 +1,23 @@
--- The frame-rate law. A conversion of the frame rate changes the padding between a stream's pairs. Where the receiver awaits
--- no repeat, padding put in or taken out changes nothing that it reports. `FrameRateLaw` at the end is the law;
--- `frame-rate-law` in proofs/FrameRate.antt proves it. The port's own words, over the receiver's step.
-use mathlib.Core.Bool.{Bool, false}
+-- The frame-rate law. A conversion of the frame rate changes the padding between a stream's pairs. `harmless` says at which
+-- places padding may be put in or taken out, and `FrameRateLaw` that a receiver notices it at every other place.
+-- `RepaddedLaw` at the end is for whole streams, any number of places at once. proofs/FrameRate.antt and
+-- proofs/Repadded.antt prove the two. The port's own words, over the receiver's step.
+use mathlib.Core.Bool.{Bool, true, false, cond, not, _||_}
 use mathlib.Core.List.{List, [], _∷_}
-use mathlib.Core.Logic.{_⊎_}
+use mathlib.Core.Logic.{_↔_}
+use mathlib.Core.Option.{Option, none, some}
 use mathlib.Core.Path.{_≡_}
-use Rattle.code.specs.Read.{isCommandPair}
+use Rattle.code.specs.Outcome.{Outcome}
+use Rattle.code.specs.Parity.{stripped}
+use Rattle.code.specs.Pair.{samePair}
+use Rattle.code.specs.Read.{commandOf, isCommandPair, isOddPair}
+use Rattle.code.specs.declared.control.ControlCode.{ControlCode}
 use Rattle.code.specs.declared.pair.Pair.{Pair}
+use Rattle.event.specs.declared.event.Cea608.{Cea608}
 use Rattle.agreement.specs.Pairs.{padding}
-use Rattle.receiver.specs.Reading.{after, answers, events, said}
-use Rattle.receiver.specs.Receiver.{step}
+use Rattle.receiver.specs.Heard.{eventOf}
+use Rattle.receiver.specs.Reading.{after, answers, once}
+use Rattle.receiver.specs.Receiver.{fresh, isLast, step}
 use Rattle.receiver.specs.declared.state.Cea608State.{Cea608State}
 use Rattle.receiver.specs.declared.state.LastPair.{LastPair}
 use Rattle.receiver.specs.declared.state.LastPair.the-variants as last
@@ -20,30 +28,88 @@ abbrev pub awaits : LastPair → Bool
 awaits last.Absent = false
 awaits (last.Was p) = isCommandPair p
 
--- from this state no repeat is awaited
-abbrev pub Quiet : Cea608State → Type 0
-Quiet s = awaits (s .«last_data») ≡ false
+-- the next pair that is not refused, if one follows
+abbrev pub nextRead : List Pair → Option Pair
+nextRead [] = none
+nextRead (p ∷ ps) = cond (isOddPair p) (some p) (nextRead ps)
 
--- read from this state, the second stream is the first with padding put in or taken out at any places where it is quiet
+abbrev pub isNone : {A : Type 0} → Option A → Bool
+isNone none = true
+isNone (some x) = false
+
+abbrev pub differs : LastPair → Option Pair → Bool
+differs l none = false
+differs l (some p) = not (isLast p l)
+
+-- the command that a pair is read as
+abbrev pub commandIn : Pair → ControlCode
+commandIn p = commandOf (stripped (p .0)) (stripped (p .1))
+
+-- it has no event: an alarm, flash, a text command, an `Unknown`, or a symbol that has no character
+abbrev pub isSilent : LastPair → Bool
+isSilent last.Absent = false
+isSilent (last.Was p) = isNone (eventOf (commandIn p))
+
+-- By the last pair and the next one that is not refused, that one is not the awaited repeat: (a) no repeat is awaited,
+-- (b) no such pair follows, or (c) it differs from the last pair.
+abbrev pub noRepeat : LastPair → Option Pair → Bool
+noRepeat l next = not (awaits l) || isNone next || differs l next
+
+-- A place of a stream is given by the state there and the rest of the stream. Padding does no harm in the cases (a), (b)
+-- and (c), and where (d) the awaited command has no event.
+abbrev pub harmless : Cea608State → List Pair → Bool
+harmless s rest = noRepeat (s .«last_data») (nextRead rest) || isSilent (s .«last_data»)
+
+-- from two states: the same answer to each pair, and the same channel and field at the end
+pub record ReadAlike (s t : Cea608State) (ps : List Pair) : Type 0 where
+  pub same-answers : answers s ps ≡ answers t ps
+  pub same-channel : after s ps .«last_channel» ≡ after t ps .«last_channel»
+  pub same-field : after s ps .«last_received_field» ≡ after t ps .«last_received_field»
+
+-- with and without padding at this place
+abbrev pub Unchanged : Cea608State → List Pair → Type 0
+Unchanged s rest = ReadAlike s (step s padding .1) rest
+
+-- read by a fresh receiver, and judged with what follows: these places and no others
+abbrev pub FrameRateLaw : Type 0
+FrameRateLaw =
+    (before rest : List Pair) → (harmless (after fresh before) rest ≡ true) ↔ Unchanged (after fresh before) rest
+
+-- Read once more, the last pair would leave channel and field as they are. Every state that is reached from the fresh one is
+-- so; a state of other contents need not be.
+abbrev pub SetBy : LastPair → Cea608State → Type 0
+SetBy last.Absent s = Unit
+SetBy (last.Was p) s =
+    (once s p .1 .«last_channel» ≡ s .«last_channel») × (once s p .1 .«last_received_field» ≡ s .«last_received_field»)
+
+abbrev pub Settled : Cea608State → Type 0
+Settled s = SetBy (s .«last_data») s
+
+-- from a state of any contents: where the awaited repeat is next, case (d) asks that the state is settled too
+pub record MayRepad (s : Cea608State) (rest : List Pair) : Type 0 where
+  pub does-no-harm : harmless s rest ≡ true
+  pub is-settled : noRepeat (s .«last_data») (nextRead rest) ≡ false → Settled s
+
+-- Read from this state, the second stream is the first with padding put in or taken out at any such places. Each is judged
+-- in the first stream, as it goes on from there, and with the padding before it as the second stream has it.
 pub data Repadded : Cea608State → List Pair → List Pair → Type 0 where
   ends : {s : Cea608State} → Repadded s [] []
   keeps : {s : Cea608State} {p : Pair} {ps qs : List Pair} → Repadded (step s p .1) ps qs → Repadded s (p ∷ ps) (p ∷ qs)
-  puts-in : {s : Cea608State} {ps qs : List Pair} → Quiet s → Repadded s ps qs → Repadded s ps (padding ∷ qs)
-  takes-out : {s : Cea608State} {ps qs : List Pair} → Quiet s → Repadded (step s padding .1) ps qs → Repadded s (padding ∷ ps) qs
+  puts-in : {s : Cea608State} {ps qs : List Pair} → MayRepad s ps → Repadded (step s padding .1) ps qs → Repadded s ps (padding ∷ qs)
+  takes-out : {s : Cea608State} {ps qs : List Pair} → MayRepad s ps → Repadded s ps qs → Repadded s (padding ∷ ps) qs
 
--- two states of one channel and field, both with the same last pair or neither awaiting a repeat
-pub record Alike (s t : Cea608State) : Type 0 where
-  pub same-channel : s .«last_channel» ≡ t .«last_channel»
-  pub same-field : s .«last_received_field» ≡ t .«last_received_field»
-  pub same-wait : (s .«last_data» ≡ t .«last_data») ⊎ (Quiet s × Quiet t)
+-- of the answers to a stream's pairs, those to pairs that are no padding
+abbrev pub toOthers : List Pair → List (Outcome (Option Cea608)) → List (Outcome (Option Cea608))
+toOthers (p ∷ ps) (o ∷ os) = cond (samePair padding p) (toOthers ps os) (o ∷ toOthers ps os)
+toOthers [] os = []
+toOthers (p ∷ ps) [] = []
 
--- the same events in the same order, the same refusals among them, and states at the end with the same channel and field
--- that no later pair distinguishes
+-- the same answers to all pairs but padding, in order, and the same channel and field at the end
 pub record SameCaptions (s : Cea608State) (ps qs : List Pair) : Type 0 where
-  pub same-events : events (answers s ps) ≡ events (answers s qs)
-  pub same-said : said (answers s ps) ≡ said (answers s qs)
-  pub ends-alike : Alike (after s ps) (after s qs)
+  pub same-answers : toOthers ps (answers s ps) ≡ toOthers qs (answers s qs)
+  pub same-channel : after s ps .«last_channel» ≡ after s qs .«last_channel»
+  pub same-field : after s ps .«last_received_field» ≡ after s qs .«last_received_field»
 
 -- from any state, at any number of such places
-abbrev pub FrameRateLaw : Type 0
-FrameRateLaw = (s : Cea608State) (ps qs : List Pair) → Repadded s ps qs → SameCaptions s ps qs
+abbrev pub RepaddedLaw : Type 0
+RepaddedLaw = (s : Cea608State) (ps qs : List Pair) → Repadded s ps qs → SameCaptions s ps qs

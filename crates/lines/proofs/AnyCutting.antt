@@ -21,7 +21,7 @@ use Rattle.lines.proofs.Waiting.{empty-where-no-more}
 use Rattle.lines.specs.Cutting.{Cut, Finished, Run, atEnd, began, cutAll, cutOnce, halfBytes, saysYet}
 use Rattle.lines.specs.Line.{bytesFrom, emptyLine, hasMore, pending, says, unwritten, waiting, writes}
 use Rattle.lines.specs.Listing.{endsRefused, listFrom, listing, mostPairs, refusals}
-use Rattle.lines.specs.Pieces.{Piece, absorbed, afterPair, behind, counted, endBy, endedListing, ending, flushedOnly, freshListing, isDone, oneMore, pieceOf, refusedBy, stops, withByte, withHalf, withLine}
+use Rattle.lines.specs.Pieces.{Piece, absorbed, afterPair, afterByte, counted, endBy, endedListing, ending, flushedOnly, freshListing, isDone, oneMore, pieceOf, refusedBy, stops, withByte, withHalf, withLine}
 use Rattle.lines.specs.Words.{lastLine, line, lineOf, refusedWords}
 use Rattle.lines.specs.declared.line.Line.{Line}
 use Rattle.lines.specs.declared.listing.Half.{Half}
@@ -193,7 +193,7 @@ only-flushed l sound input more room = (
   λ (on : l .ended ≡ false). flushed-open l room (sound on),
 )
 
-drop-more : (n a : ℕ) (rest : List ℕ) → drop (n + 1) (a ∷ rest) ≡ drop n rest
+pub drop-more : (n a : ℕ) (rest : List ℕ) → drop (n + 1) (a ∷ rest) ≡ drop n rest
 drop-more n a rest =
     let more : n + 1 ≡ suc n = omega arith in
     ap (λ (k : ℕ). drop k (a ∷ rest)) more
@@ -205,7 +205,7 @@ module _ (l : Listing) (sound : Sound l) (a : ℕ) (rest more : List ℕ) (room 
   abbrev later : Piece
   later = pieceOf (absorbed flushed a) rest (room - length (writes (l .line) room))
 
-  goes-on : l .ended ≡ false → ltb room (waiting (l .line)) ≡ false → Goes (absorbed flushed a) rest more later → Goes l (a ∷ rest) more (behind (writes (l .line) room) later)
+  goes-on : l .ended ≡ false → ltb room (waiting (l .line)) ≡ false → Goes (absorbed flushed a) rest more later → Goes l (a ∷ rest) more (afterByte (writes (l .line) room) later)
   goes-on on fits next = (
     flush-says l room (a ∷ (rest ++ more))
         ∙ ap (λ (xs : List ℕ). writes (l .line) room ++ xs)
@@ -216,7 +216,7 @@ module _ (l : Listing) (sound : Sound l) (a : ℕ) (rest more : List ℕ) (room 
     next .1,
   )
 
-  unless-stopped : (ended : Bool) → l .ended ≡ ended → (full : Bool) → ltb room (waiting (l .line)) ≡ full → (l .ended ≡ false → Goes (absorbed flushed a) rest more later) → Goes l (a ∷ rest) more (cond (cond ended true full) (flushedOnly l room) (behind (writes (l .line) room) later))
+  unless-stopped : (ended : Bool) → l .ended ≡ ended → (full : Bool) → ltb room (waiting (l .line)) ≡ full → (l .ended ≡ false → Goes (absorbed flushed a) rest more later) → Goes l (a ∷ rest) more (cond (cond ended true full) (flushedOnly l room) (afterByte (writes (l .line) room) later))
   unless-stopped true e full f next = only-flushed l sound (a ∷ rest) more room
   unless-stopped false e true f next = only-flushed l sound (a ∷ rest) more room
   unless-stopped false e false f next = goes-on e f (next e)
@@ -276,7 +276,7 @@ no-more-than-offered [] l room = omega arith
 no-more-than-offered (a ∷ rest) l room =
     unless-stopped′ (stops l room) (no-more-than-offered rest (absorbed (withLine l (unwritten (l .line) room)) a) (room - length (writes (l .line) room)))
   where
-    unless-stopped′ : (t : Bool) → pieceOf (absorbed (withLine l (unwritten (l .line) room)) a) rest (room - length (writes (l .line) room)) .taken ≤ length rest → cond t (flushedOnly l room) (behind (writes (l .line) room) (pieceOf (absorbed (withLine l (unwritten (l .line) room)) a) rest (room - length (writes (l .line) room)))) .taken ≤ suc (length rest)
+    unless-stopped′ : (t : Bool) → pieceOf (absorbed (withLine l (unwritten (l .line) room)) a) rest (room - length (writes (l .line) room)) .taken ≤ length rest → cond t (flushedOnly l room) (afterByte (writes (l .line) room) (pieceOf (absorbed (withLine l (unwritten (l .line) room)) a) rest (room - length (writes (l .line) room)))) .taken ≤ suc (length rest)
     unless-stopped′ true few = omega arith
     unless-stopped′ false few = omega (arith, few)
 

@@ -1,12 +1,15 @@
 pub mod AnyCutting
 pub mod Bounds
+pub mod Called
 pub mod Digits
 pub mod Flushing
+pub mod Loops
 pub mod Memory
 pub mod OneAnswer
 pub mod Progress
 pub mod Puts
 pub mod Reading
 pub mod Waiting
+pub mod Whole
 pub mod WholePairs
 pub mod WorkedCase

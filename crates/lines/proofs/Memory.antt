@@ -11,14 +11,14 @@ use lib.Dec.{leb, ltb}
 use lib.ListN.{getD, length, length-set, set, take}
 use lib.Seq.{getD-set-other, getD-set-same, take-all}
 use Rattle.lines.proofs.Puts.{put-as}
-use Rattle.lines.specs.Line.{bytesFrom, emptyLine, pending, says, unwritten, waiting, writes}
+use Rattle.lines.specs.Line.{bytesFrom, emptyLine, lineLength, pending, says, unwritten, waiting, writes}
 use Rattle.lines.specs.Put.{Placed, putAll}
 use Rattle.lines.specs.declared.line.Line.{Line}
 
--- a line of the 96 places that every value of the type has, with all its bytes inside them
+-- a line of as many places as every value of the type has, with all its bytes inside them
 pub record Begun (l : Line) : Type 0 where
-  pub places : length (l .bytes) ≡ 96
-  pub inside : l .len ≤ 96
+  pub places : length (l .bytes) ≡ lineLength
+  pub inside : l .len ≤ lineLength
 
 pub empty-begun : Begun emptyLine
 empty-begun = record { places = refl; inside = omega arith }
@@ -28,10 +28,10 @@ from-length bytes at zero = refl
 from-length bytes at (suc n) = ap suc (from-length bytes (at + 1) n)
 
 -- a byte set after those that wait is not among them
-set-behind : (bytes : List ℕ) (at n i b : ℕ) → at + n ≤ i → bytesFrom (set bytes i b) at n ≡ bytesFrom bytes at n
-set-behind bytes at zero i b past = refl
-set-behind bytes at (suc n) i b past =
-    ap₂ _∷_ (getD-set-other bytes i at b 0 (λ (e : at ≡ i). omega (arith, e, past))) (set-behind bytes (at + 1) n i b (omega (arith, past)))
+set-after : (bytes : List ℕ) (at n i b : ℕ) → at + n ≤ i → bytesFrom (set bytes i b) at n ≡ bytesFrom bytes at n
+set-after bytes at zero i b past = refl
+set-after bytes at (suc n) i b past =
+    ap₂ _∷_ (getD-set-other bytes i at b 0 (λ (e : at ≡ i). omega (arith, e, past))) (set-after bytes (at + 1) n i b (omega (arith, past)))
 
 -- and is the last of one more
 from-one-more : (bytes : List ℕ) (at n : ℕ) → bytesFrom bytes at (n + 1) ≡ bytesFrom bytes at n ++ (getD bytes (at + n) 0 ∷ [])
@@ -46,28 +46,28 @@ from-one-more bytes at (suc n) =
     (from-one-more bytes (at + 1) n ∙ ap (λ (k : ℕ). bytesFrom bytes (at + 1) n ++ (getD bytes k 0 ∷ [])) there)
 
 -- what waits in a line that is not cut off
-pub waiting-is : (l : Line) → l .len ≤ 96 → waiting l ≡ l .len - l .at
-waiting-is l inside = by-length (leb 96 (l .len)) refl
+pub waiting-is : (l : Line) → l .len ≤ lineLength → waiting l ≡ l .len - l .at
+waiting-is l inside = by-length (leb lineLength (l .len)) refl
   where
-    by-length : (t : Bool) → leb 96 (l .len) ≡ t → cond t 96 (l .len) - l .at ≡ l .len - l .at
-    by-length true e = omega (arith, inside, borrow.Author.Tests.leb-true 96 (l .len) e)
+    by-length : (t : Bool) → leb lineLength (l .len) ≡ t → cond t lineLength (l .len) - l .at ≡ l .len - l .at
+    by-length true e = omega (arith, inside, borrow.Author.Tests.leb-true lineLength (l .len) e)
     by-length false e = refl
 
 -- a line with a byte more
 abbrev further : Line → ℕ → Line
 further l b = record { bytes = set (l .bytes) (l .len) b; at = l .at; len = l .len + 1 }
 
-further-begun : (l : Line) (b : ℕ) → Begun l → l .len < 96 → Begun (further l b)
+further-begun : (l : Line) (b : ℕ) → Begun l → l .len < lineLength → Begun (further l b)
 further-begun l b begun less = record { places = length-set (l .bytes) (l .len) b ∙ begun .places; inside = omega (arith, less) }
 
-further-waits : (l : Line) (b : ℕ) → Begun l → l .len < 96 → l .at ≤ l .len → pending (further l b) ≡ pending l ++ (b ∷ [])
+further-waits : (l : Line) (b : ℕ) → Begun l → l .len < lineLength → l .at ≤ l .len → pending (further l b) ≡ pending l ++ (b ∷ [])
 further-waits l b begun less ahead =
     let n = l .len - l .at in
     let there : l .at + n ≡ l .len = omega (arith, ahead) in
     let more : waiting (further l b) ≡ n + 1 = waiting-is (further l b) (omega (arith, less)) ∙ omega (arith, ahead) in
     ap (bytesFrom (set (l .bytes) (l .len) b) (l .at)) more
     ∙ from-one-more (set (l .bytes) (l .len) b) (l .at) n
-    ∙ ap₂ (λ (xs : List ℕ) (y : ℕ). xs ++ (y ∷ [])) (set-behind (l .bytes) (l .at) n (l .len) b (omega (arith, there)))
+    ∙ ap₂ (λ (xs : List ℕ) (y : ℕ). xs ++ (y ∷ [])) (set-after (l .bytes) (l .at) n (l .len) b (omega (arith, there)))
     (ap (λ (k : ℕ). getD (set (l .bytes) (l .len) b) k 0) there ∙ getD-set-same (l .bytes) (l .len) b 0 (omega (arith, less, begun .places)))
     ∙ ap (λ (k : ℕ). bytesFrom (l .bytes) (l .at) k ++ (b ∷ [])) (sym (waiting-is l (omega (arith, less))))
 
@@ -81,10 +81,10 @@ pub record Holds (l next : Line) (bs : List ℕ) : Type 0 where
 abbrev placed : Line → Placed → Line
 placed l s = record { bytes = s .1; at = l .at; len = s .0 }
 
-pub all-said : (bs : List ℕ) (l : Line) → Begun l → l .at ≤ l .len → l .len + length bs ≤ 96 → Holds l (says l bs) bs
+pub all-said : (bs : List ℕ) (l : Line) → Begun l → l .at ≤ l .len → l .len + length bs ≤ lineLength → Holds l (says l bs) bs
 all-said [] l begun ahead fits = record { begun = begun; waits = sym (append-nil (pending l)); len = omega arith; at = refl }
 all-said (b ∷ bs) l begun ahead fits =
-    let less : l .len < 96 = omega (arith, fits) in
+    let less : l .len < lineLength = omega (arith, fits) in
     let one : says l (b ∷ bs) ≡ says (further l b) bs = ap (λ (s : Placed). placed l (putAll s bs)) (put-as (l .len) (l .bytes) b (omega (arith, less, begun .places))) in
     let later = all-said bs (further l b) (further-begun l b begun less) (omega (arith, ahead)) (omega (arith, fits)) in
     subst (λ (x : Line). Holds l x (b ∷ bs)) (sym one)

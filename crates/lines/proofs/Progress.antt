@@ -12,7 +12,7 @@ use lib.Dec.{ltb}
 use lib.ListN.{drop, length, length-append, take}
 use lib.Seq.{take-append-seam}
 use Rattle.lines.specs.Line.{bytesFrom, hasMore, over, unwritten, waiting, writes}
-use Rattle.lines.specs.Pieces.{Piece, absorbed, behind, flushedOnly, isDone, pieceOf, withLine}
+use Rattle.lines.specs.Pieces.{Piece, absorbed, afterByte, flushedOnly, isDone, pieceOf, withLine}
 use Rattle.lines.specs.declared.line.Line.{Line}
 use Rattle.lines.specs.declared.listing.Listing.{Listing}
 
@@ -36,7 +36,7 @@ module _ (l : Listing) (a : ℕ) (rest : List ℕ) (room : ℕ) (fits : 0 < room
   Moves p = 0 < p .taken + length (p .text)
 
   -- a byte is taken where nothing stops it, and where something waits that is written
-  moves : (more : Bool) → hasMore (l .line) ≡ more → (ended : Bool) → cond more false ended ≡ false → (full : Bool) → ltb room (waiting (l .line)) ≡ full → Moves (cond (cond ended true full) (flushedOnly l room) (behind (writes (l .line) room) next))
+  moves : (more : Bool) → hasMore (l .line) ≡ more → (ended : Bool) → cond more false ended ≡ false → (full : Bool) → ltb room (waiting (l .line)) ≡ full → Moves (cond (cond ended true full) (flushedOnly l room) (afterByte (writes (l .line) room) next))
   moves true m true busy full f = omega (arith, some-written (l .line) room m fits)
   moves true m false busy true f = omega (arith, some-written (l .line) room m fits)
   moves true m false busy false f = omega arith
@@ -59,7 +59,7 @@ no-more-than-room (a ∷ rest) l room =
     unless-stopped (cond (l .ended) true (ltb room (waiting (l .line))))
     (no-more-than-room rest (absorbed (withLine l (unwritten (l .line) room)) a) (room - length (writes (l .line) room)))
   where
-    unless-stopped : (t : Bool) → length (pieceOf (absorbed (withLine l (unwritten (l .line) room)) a) rest (room - length (writes (l .line) room)) .text) ≤ room - length (writes (l .line) room) → length (cond t (flushedOnly l room) (behind (writes (l .line) room) (pieceOf (absorbed (withLine l (unwritten (l .line) room)) a) rest (room - length (writes (l .line) room)))) .text) ≤ room
+    unless-stopped : (t : Bool) → length (pieceOf (absorbed (withLine l (unwritten (l .line) room)) a) rest (room - length (writes (l .line) room)) .text) ≤ room - length (writes (l .line) room) → length (cond t (flushedOnly l room) (afterByte (writes (l .line) room) (pieceOf (absorbed (withLine l (unwritten (l .line) room)) a) rest (room - length (writes (l .line) room)))) .text) ≤ room
     unless-stopped true few = take-fits room _
     unless-stopped false few =
         omega (arith, few, take-fits room (bytesFrom (l .line .bytes) (l .line .at) (waiting (l .line))), length-append (writes (l .line) room) (pieceOf (absorbed (withLine l (unwritten (l .line) room)) a) rest (room - length (writes (l .line) room)) .text))

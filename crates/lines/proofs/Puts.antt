@@ -65,11 +65,11 @@ put-as-sets [] at out fits =
     ap {B = Placed} (λ (k : ℕ). (k, out)) here
 put-as-sets (b ∷ bs) at out fits =
     let one : at + 1 ≡ suc at = omega arith in
-    let behind : suc at + length bs ≡ at + suc (length bs) = omega arith in
+    let past : suc at + length bs ≡ at + suc (length bs) = omega arith in
     ap (λ (s : Placed). putAll s bs) (put-as at out b (omega (arith, fits)))
     ∙ ap (λ (k : ℕ). putAll (k, set out at b) bs) one
     ∙ put-as-sets bs (suc at) (set out at b) (omega (arith, fits, length-set out at b))
-    ∙ ap {B = Placed} (λ (k : ℕ). (k, sets (set out at b) (suc at) bs)) behind
+    ∙ ap {B = Placed} (λ (k : ℕ). (k, sets (set out at b) (suc at) bs)) past
 
 pub all-places : (bs : List ℕ) (at : ℕ) (out : List ℕ) → at + length bs ≤ length out → putAll (at, out) bs ≡ (at + length bs, take at out ++ over bs (drop at out))
 all-places bs at out fits =

@@ -14,7 +14,7 @@ use Rattle.code.proofs.LentPart.{lent-part, with-part, withPart}
 use Rattle.lines.proofs.Waiting.{empty-where-no-more, fits, left-where-more, nothing-waits}
 use Rattle.lines.specs.Line.{emptyLine, flushOutcome, flushed, hasMore, over, unwritten, waiting, writes}
 use Rattle.lines.specs.Midway.{comesTo, onceRead}
-use Rattle.lines.specs.Pieces.{Piece, Read, absorbed, behind, flushedOnly, pieceOf, readListing, stops, withLine}
+use Rattle.lines.specs.Pieces.{Piece, Read, absorbed, afterByte, flushedOnly, pieceOf, readListing, stops, withLine}
 use Rattle.lines.specs.declared.line.Flushed.{Flushed}
 use Rattle.lines.specs.declared.line.Line.{Line}
 use Rattle.lines.specs.declared.listing.Listing.{Listing}
@@ -56,14 +56,14 @@ idle-at-end : (l : Listing) (room : ℕ) → pieceOf (withLine l emptyLine) [] r
 idle-at-end l room =
     ap₂ {C = Piece} (λ (w : List ℕ) (x : Line). record { taken = 0; text = w; next = withLine l x }) (take-nil room) (empty-where-no-more emptyLine room (nothing-waits room))
 
-idle-byte : (l : Listing) (room : ℕ) → l .ended ≡ false → (a : ℕ) (rest : List ℕ) → pieceOf (withLine l emptyLine) (a ∷ rest) room ≡ behind [] (pieceOf (absorbed (withLine l emptyLine) a) rest room)
+idle-byte : (l : Listing) (room : ℕ) → l .ended ≡ false → (a : ℕ) (rest : List ℕ) → pieceOf (withLine l emptyLine) (a ∷ rest) room ≡ afterByte [] (pieceOf (absorbed (withLine l emptyLine) a) rest room)
 idle-byte l room on a rest =
     let same : room - 0 ≡ room = omega arith in
     let goes : cond (l .ended) true (ltb room (waiting emptyLine)) ≡ false = ap₂ (λ (t b : Bool). cond t true b) on (nothing-waits room) in
-    let next : List ℕ → Line → Piece = λ (w : List ℕ) (x : Line). behind w (pieceOf (absorbed (withLine l x) a) rest (room - length w)) in
+    let next : List ℕ → Line → Piece = λ (w : List ℕ) (x : Line). afterByte w (pieceOf (absorbed (withLine l x) a) rest (room - length w)) in
     ap (λ (t : Bool). cond t (flushedOnly (withLine l emptyLine) room) (next (writes emptyLine room) (unwritten emptyLine room))) goes
     ∙ ap₂ next (take-nil room) (empty-where-no-more emptyLine room (nothing-waits room))
-    ∙ ap (λ (n : ℕ). behind [] (pieceOf (absorbed (withLine l emptyLine) a) rest n)) same
+    ∙ ap (λ (n : ℕ). afterByte [] (pieceOf (absorbed (withLine l emptyLine) a) rest n)) same
 
 -- what waits and has room is written first, and then it is as if nothing had waited
 flush-first : (l : Listing) (room : ℕ) → l .ended ≡ false → ltb room (waiting (l .line)) ≡ false → (input : List ℕ) → pieceOf l input room ≡ prefixed (writes (l .line) room) (pieceOf (withLine l emptyLine) input (room - length (writes (l .line) room)))
@@ -74,7 +74,7 @@ flush-first l room on none [] =
 flush-first l room on none (a ∷ rest) =
     let w = writes (l .line) room in
     let goes : stops l room ≡ false = ap₂ (λ (t b : Bool). cond t true b) on none in
-    let next : Line → Piece = λ (x : Line). behind w (pieceOf (absorbed (withLine l x) a) rest (room - length w)) in
+    let next : Line → Piece = λ (x : Line). afterByte w (pieceOf (absorbed (withLine l x) a) rest (room - length w)) in
     ap (λ (t : Bool). cond t (flushedOnly l room) (next (unwritten (l .line) room))) goes
     ∙ ap next (empty-where-no-more (l .line) room none)
     ∙ ap (prefixed w) (sym (idle-byte l (room - length w) on a rest))
@@ -153,7 +153,7 @@ module _ (l : Listing) (output : List ℕ) (written : ℕ) (inside : written ≤
       let next = absorbed (left l output written) (getD input taken 0) in
       ends-with taken _
       (ap (λ (i : List ℕ). pieceOf l i room) first
-      ∙ ap (λ (t : Bool). cond t (flushedOnly l room) (behind w (pieceOf next (drop (taken + 1) input) (room - length w)))) stop)
+      ∙ ap (λ (t : Bool). cond t (flushedOnly l room) (afterByte w (pieceOf next (drop (taken + 1) input) (room - length w)))) stop)
 
 -- the same with what the flush of the part that was lent came to
 module _ (l : Listing) (output : List ℕ) (written : ℕ) (inside : written ≤ length output) (r : Flushed) (ys : List ℕ) (done : flushOutcome r ys ≡ flushed (l .line) (take (length output - written) (drop written output))) where

@@ -9,31 +9,31 @@ use borrow.Author.Tests.{le-ltb, leb-false, leb-true, lt-ltb, ltb-false, ltb-tru
 use lib.Dec.{leb, ltb}
 use lib.ListN.{getD, length, length-append, length-take}
 use Rattle.lines.proofs.Memory.{from-length, written-and-waiting}
-use Rattle.lines.specs.Line.{bytesFrom, emptyLine, hasMore, pending, unwritten, waiting, writes}
+use Rattle.lines.specs.Line.{bytesFrom, emptyLine, hasMore, lineLength, pending, unwritten, waiting, writes}
 use Rattle.lines.specs.declared.line.Line.{Line}
 
--- the place after the last byte that waits: the length, but at most 96
+-- the place after the last byte that waits: the length, but at most that of the memory
 abbrev lastPlace : ℕ → ℕ
-lastPlace len = cond (leb 96 len) 96 len
+lastPlace len = cond (leb lineLength len) lineLength len
 
-last-place-by : (len : ℕ) (t : Bool) → leb 96 len ≡ t → (cond t 96 len ≤ 96) × (cond t 96 len ≤ len) × ((n : ℕ) → n < 96 → n < len → n < cond t 96 len)
-last-place-by len true e = (omega arith, omega (arith, leb-true 96 len e), λ n small less. omega arith)
-last-place-by len false e = (omega (arith, leb-false 96 len e), omega arith, λ n small less. omega arith)
+last-place-by : (len : ℕ) (t : Bool) → leb lineLength len ≡ t → (cond t lineLength len ≤ lineLength) × (cond t lineLength len ≤ len) × ((n : ℕ) → n < lineLength → n < len → n < cond t lineLength len)
+last-place-by len true e = (omega arith, omega (arith, leb-true lineLength len e), λ n small less. omega arith)
+last-place-by len false e = (omega (arith, leb-false lineLength len e), omega arith, λ n small less. omega arith)
 
-last-place : (len : ℕ) → (lastPlace len ≤ 96) × (lastPlace len ≤ len) × ((n : ℕ) → n < 96 → n < len → n < lastPlace len)
-last-place len = last-place-by len (leb 96 len) refl
+last-place : (len : ℕ) → (lastPlace len ≤ lineLength) × (lastPlace len ≤ len) × ((n : ℕ) → n < lineLength → n < len → n < lastPlace len)
+last-place len = last-place-by len (leb lineLength len) refl
 
 -- no more bytes wait than there are before either
-pub behind-96 : (l : Line) (count : ℕ) → 96 ≤ l .at + count → waiting l ≤ count
-behind-96 l count h = omega (arith, last-place (l .len) .0)
+pub past-the-memory : (l : Line) (count : ℕ) → lineLength ≤ l .at + count → waiting l ≤ count
+past-the-memory l count h = omega (arith, last-place (l .len) .0)
 
-pub behind-length : (l : Line) (count : ℕ) → l .len ≤ l .at + count → waiting l ≤ count
-behind-length l count h = omega (arith, last-place (l .len) .1)
+pub past-the-length : (l : Line) (count : ℕ) → l .len ≤ l .at + count → waiting l ≤ count
+past-the-length l count h = omega (arith, last-place (l .len) .1)
 
-pub none-behind-96 : (l : Line) → 96 ≤ l .at → hasMore l ≡ false
-none-behind-96 l h = le-ltb 0 (waiting l) (behind-96 l 0 (omega arith))
+pub none-past-the-memory : (l : Line) → lineLength ≤ l .at → hasMore l ≡ false
+none-past-the-memory l h = le-ltb 0 (waiting l) (past-the-memory l 0 (omega arith))
 
-pub more-before-both : (l : Line) (count : ℕ) → l .at + count < 96 → l .at + count < l .len → count < waiting l
+pub more-before-both : (l : Line) (count : ℕ) → l .at + count < lineLength → l .at + count < l .len → count < waiting l
 more-before-both l count small less =
     omega (arith, last-place (l .len) .2 (l .at + count) small less)
 
@@ -45,7 +45,7 @@ same-test a b c d if-less if-not = same-by (ltb a b) refl
     same-by true e = e ∙ sym (lt-ltb c d (if-less (ltb-true a b e)))
     same-by false e = e ∙ sym (le-ltb c d (if-not (ltb-false a b e)))
 
-pub more-by-length : (l : Line) → l .at < 96 → ltb (l .at) (l .len) ≡ hasMore l
+pub more-by-length : (l : Line) → l .at < lineLength → ltb (l .at) (l .len) ≡ hasMore l
 more-by-length l small =
     let last = last-place (l .len) in
     same-test (l .at) (l .len) 0 (waiting l)

@@ -16,7 +16,7 @@ use Rattle.lines.proofs.Memory.{all-said, empty-begun}
 use Rattle.lines.proofs.Puts.{all-places, puts-length}
 use Rattle.lines.proofs.Reading.{byte-taken, goes-on}
 use Rattle.lines.proofs.Waiting.{how-many}
-use Rattle.lines.specs.Line.{emptyLine, over, pending, waiting, writes}
+use Rattle.lines.specs.Line.{emptyLine, lineLength, over, pending, waiting, writes}
 use Rattle.lines.specs.Listing.{mostPairs}
 use Rattle.lines.specs.Midway.{comesTo}
 use Rattle.lines.specs.Pieces.{absorbed, afterPair, betweenPairs, counted, withHalf, withLine}
@@ -42,7 +42,7 @@ second-byte : (s : Cea608State) (k q a b : ℕ) → k < mostPairs → absorbed (
 unfolding absorbed
 second-byte s k q a b less = rw (lt-leb mostPairs k less) refl
 
-module _ (input : List ℕ) (taken : ℕ) (s : Cea608State) (k q : ℕ) (output : List ℕ) (written : ℕ) (whole : taken + 2 ≤ length input) (room : written + 96 ≤ length output) (less : k < mostPairs) where
+module _ (input : List ℕ) (taken : ℕ) (s : Cea608State) (k q : ℕ) (output : List ℕ) (written : ℕ) (whole : taken + 2 ≤ length input) (room : written + lineLength ≤ length output) (less : k < mostPairs) where
   abbrev heard : Stepped
   heard = step s (pair (getD input taken 0) (getD input (taken + 1) 0))
 

@@ -8,7 +8,7 @@ use mathlib.Core.Path.{_≡_}
 use lib.ListN.{drop, take}
 use Rattle.lines.specs.Line.{pending}
 use Rattle.lines.specs.Listing.{listFrom}
-use Rattle.lines.specs.Pieces.{endedListing, pieceOf}
+use Rattle.lines.specs.Pieces.{Piece, endedListing, pieceOf}
 use Rattle.lines.specs.declared.listing.Half.{Half}
 use Rattle.lines.specs.declared.listing.Half.the-variants as half
 use Rattle.lines.specs.declared.listing.Listing.{Listing}
@@ -37,12 +37,11 @@ pub record Run : Type 0 where
 abbrev pub began : Listing → List ℕ → Run
 began l input = record { text = []; listing = l; left = input }
 
+abbrev pub afterPiece : Run → Piece → Run
+afterPiece r p = record { text = r .text ++ p .text; listing = p .next; left = drop (p .taken) (r .left) }
+
 abbrev pub cutOnce : Cut → Run → Run
-cutOnce c r = record {
-  text = r .text ++ pieceOf (r .listing) (take (c .offered) (r .left)) (c .room) .text;
-  listing = pieceOf (r .listing) (take (c .offered) (r .left)) (c .room) .next;
-  left = drop (pieceOf (r .listing) (take (c .offered) (r .left)) (c .room) .taken) (r .left);
-}
+cutOnce c r = afterPiece r (pieceOf (r .listing) (take (c .offered) (r .left)) (c .room))
 
 abbrev pub cutAll : List Cut → Run → Run
 cutAll [] r = r

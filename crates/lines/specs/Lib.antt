@@ -4,4 +4,5 @@ pub mod Listing
 pub mod Line
 pub mod Pieces
 pub mod Cutting
+pub mod Loops
 pub mod Midway

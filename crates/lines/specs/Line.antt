@@ -1,4 +1,4 @@
--- A line that waits to be written: the bytes of a memory of 96, between two places. The port's own words.
+-- A line that waits to be written: the bytes of a memory between two places. The port's own words.
 use Prim.Native.Nat.{ℕ, zero, suc, _+_, _-_}
 use mathlib.Core.Bool.{Bool, cond}
 use mathlib.Core.List.{List, [], _∷_, _++_}
@@ -8,8 +8,12 @@ use Rattle.lines.specs.Put.{putAll}
 use Rattle.lines.specs.declared.line.Flushed.{Flushed}
 use Rattle.lines.specs.declared.line.Line.{Line}
 
+-- the memory of a line; no line is longer
+abbrev pub lineLength : ℕ
+lineLength = 96
+
 abbrev pub emptyLine : Line
-emptyLine = record { bytes = replicate 96 0; at = 0; len = 0 }
+emptyLine = record { bytes = replicate lineLength 0; at = 0; len = 0 }
 
 -- the line with these bytes after what it has
 abbrev pub says : Line → List ℕ → Line
@@ -22,7 +26,7 @@ bytesFrom bytes at (suc n) = getD bytes at 0 ∷ bytesFrom bytes (at + 1) n
 
 -- how many bytes wait, and which
 abbrev pub waiting : Line → ℕ
-waiting l = cond (leb 96 (l .len)) 96 (l .len) - l .at
+waiting l = cond (leb lineLength (l .len)) lineLength (l .len) - l .at
 
 abbrev pub pending : Line → List ℕ
 pending l = bytesFrom (l .bytes) (l .at) (waiting l)

@@ -6,7 +6,7 @@ use mathlib.Core.List.{List, _++_}
 use mathlib.Core.Path.{_≡_}
 use lib.ListN.{drop, getD, length, take}
 use Rattle.code.specs.Pair.{pair}
-use Rattle.lines.specs.Line.{emptyLine, over}
+use Rattle.lines.specs.Line.{emptyLine, lineLength, over}
 use Rattle.lines.specs.Listing.{mostPairs}
 use Rattle.lines.specs.Pieces.{Piece, Read, betweenPairs, counted, pieceOf}
 use Rattle.lines.specs.Put.{putAll}
@@ -33,7 +33,7 @@ Further input taken l output written r after = (comesTo input (r .taken) (r .lis
 
 -- a pair can be listed: it is whole, there is room for any line, and the limit is not reached
 abbrev pub HasPair : List ℕ → ℕ → ℕ → List ℕ → ℕ → Type 0
-HasPair input taken k output written = (taken + 2 ≤ length input) × (written + 96 ≤ length output) × (k < mostPairs)
+HasPair input taken k output written = (taken + 2 ≤ length input) × (written + lineLength ≤ length output) × (k < mostPairs)
 
 -- what was listed is one pair that gave this
 abbrev pub OnePair : Stepped → ℕ → ℕ → List ℕ → ℕ → Listed → List ℕ → Type 0

@@ -9,7 +9,7 @@ use lib.ListN.{length}
 use Rattle.code.specs.Outcome.{Outcome, answer, refused}
 use Rattle.code.specs.Pair.{pair}
 use Rattle.event.specs.declared.event.Cea608.{Cea608}
-use Rattle.lines.specs.Line.{emptyLine, hasMore, over, says, unwritten, waiting, writes}
+use Rattle.lines.specs.Line.{emptyLine, hasMore, over, pending, says, unwritten, waiting, writes}
 use Rattle.lines.specs.Listing.{mostPairs}
 use Rattle.lines.specs.Words.{lastLine, line, lineOf, refusedWords}
 use Rattle.lines.specs.declared.line.Line.{Line}
@@ -108,14 +108,24 @@ stops l room = cond (l .ended) true (ltb room (waiting (l .line)))
 abbrev pub flushedOnly : Listing → ℕ → Piece
 flushedOnly l room = record { taken = 0; text = writes (l .line) room; next = withLine l (unwritten (l .line) room) }
 
-abbrev pub behind : List ℕ → Piece → Piece
-behind written p = record { taken = p .taken + 1; text = written ++ p .text; next = p .next }
+-- a byte is taken, after this text was written
+abbrev pub afterByte : List ℕ → Piece → Piece
+afterByte written p = record { taken = p .taken + 1; text = written ++ p .text; next = p .next }
 
 abbrev pub pieceOf : Listing → List ℕ → ℕ → Piece
 pieceOf l [] room = flushedOnly l room
 pieceOf l (a ∷ rest) room =
     cond (stops l room) (flushedOnly l room)
-    (behind (writes (l .line) room) (pieceOf (absorbed (withLine l (unwritten (l .line) room)) a) rest (room - length (writes (l .line) room))))
+    (afterByte (writes (l .line) room) (pieceOf (absorbed (withLine l (unwritten (l .line) room)) a) rest (room - length (writes (l .line) room))))
+
+-- the same with room for all: what waits is written, and each byte is taken unless the listing has ended
+abbrev pub writtenOut : Listing → Piece
+writtenOut l = record { taken = 0; text = pending (l .line); next = withLine l emptyLine }
+
+abbrev pub wholePiece : Listing → List ℕ → Piece
+wholePiece l [] = writtenOut l
+wholePiece l (a ∷ rest) =
+    cond (l .ended) (writtenOut l) (afterByte (pending (l .line)) (wholePiece (absorbed (withLine l emptyLine) a) rest))
 
 -- how many bytes were taken and written, the state, and the output
 abbrev pub Read : Type 0

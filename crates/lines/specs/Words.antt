@@ -83,20 +83,6 @@ eventWords (event.Preamble ch p) =
 eventWords (event.MidRowChange ch m) =
     wordFor (points "mid ") ch ++ (space ∷ (decimal (midRowNumber m) ++ (space ∷ flagDigit (isUnderlined m) ∷ [])))
 
--- whether an event is text, as most are
-abbrev pub isText : Cea608 → Bool
-isText (event.Text t) = true
-isText (event.NewMode ch m) = false
-isText (event.EraseDisplay ch) = false
-isText (event.EraseNonDisplay ch) = false
-isText (event.CarriageReturn ch) = false
-isText (event.Backspace ch) = false
-isText (event.EndOfCaption ch) = false
-isText (event.TabOffset ch n) = false
-isText (event.DeleteToEndOfRow ch) = false
-isText (event.Preamble ch p) = false
-isText (event.MidRowChange ch m) = false
-
 abbrev pub refusedWords : ℕ → List ℕ
 refusedWords n = points "refused " ++ decimal n
 

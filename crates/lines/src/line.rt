@@ -2,9 +2,12 @@
 ghost use mathlib.Core.Path.{_≡_};
 ghost use Rattle.lines.specs.Line.{emptyLine, flushOutcome, flushed, hasMore};
 
+// The bytes of a line's memory. No line is longer.
+pub(crate) const LINE_LENGTH: usize = 96;
+
 // What waits are the bytes from `at` up to `len`.
 pub struct Line {
-    pub bytes: [u8; 96],
+    pub bytes: [u8; LINE_LENGTH],
     pub at: usize,
     pub len: usize,
 }
@@ -21,7 +24,7 @@ impl Line {
         ensures { λ r. ⌜ r ≡ emptyLine ⌝ }
     {
         Line {
-            bytes: [0; 96],
+            bytes: [0; LINE_LENGTH],
             at: 0,
             len: 0,
         }
@@ -33,7 +36,7 @@ impl Line {
     {
         let at = self.at;
         let len = self.len;
-        if 96 <= at {
+        if LINE_LENGTH <= at {
             return false;
         }
         at < len
@@ -46,7 +49,7 @@ impl Line {
         let len = self.len;
         let mut at = self.at;
         let mut count: usize = 0;
-        while at < 96 && at < len {
+        while at < LINE_LENGTH && at < len {
             if output.len() <= count {
                 let mut line = self;
                 line.at = at;

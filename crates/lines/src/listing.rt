@@ -1,10 +1,12 @@
 // The listing's state, and what a piece of input does to it.
 ghost use mathlib.Core.Path.{_≡_};
 ghost use Prim.Native.Nat.{_<_};
+ghost use Rattle.lines.specs.Listing.{mostPairs};
 ghost use Rattle.lines.specs.Midway.{Between, Further, HasPair, Onward};
 ghost use Rattle.lines.specs.Pieces.{absorbed, afterPair, betweenPairs, counted, endedListing, freshListing, isDone, oneMore, readListing, readOutcome, refusedBy, withLine};
 ghost use Rattle.receiver.specs.Heard.{heardOutcome};
 ghost use Rattle.receiver.specs.Receiver.{step};
+use crate::line::LINE_LENGTH;
 use crate::line::Line;
 use crate::words::put_last_line;
 use crate::words::put_line_of;
@@ -12,6 +14,9 @@ use crate::words::put_refused_line;
 use code::Pair;
 use receiver::Cea608State;
 use receiver::Heard;
+
+// A stream has at most so many pairs; one byte more is refused 10.
+pub(crate) const MOST_PAIRS: u32 = 16_777_216;
 
 // The first byte of a pair whose second has not come.
 pub enum Half {
@@ -40,7 +45,7 @@ pub struct Progress {
 pub(crate) fn one_more(refused: u32) -> u32
     ensures { λ r. ⌜ r ≡ oneMore refused ⌝ }
 {
-    if refused <= 16_777_216 {
+    if refused <= MOST_PAIRS {
         return refused + 1;
     }
     refused
@@ -108,7 +113,7 @@ pub(crate) fn list_pairs(
         receiver = next;
         pairs += 1;
         taken += 2;
-        if input.len() - taken < 2 || out.len() - written < 96 || 16_777_216 <= pairs {
+        if input.len() - taken < 2 || out.len() - written < LINE_LENGTH || MOST_PAIRS <= pairs {
             break;
         }
     }
@@ -155,7 +160,7 @@ impl Listing {
 
     // The listing after a whole pair, its line waiting.
     pub(crate) fn after_pair(self, pair: Pair) -> Listing
-        requires { ⌜ self .pairs < 16777216 ⌝ }
+        requires { ⌜ self .pairs < mostPairs ⌝ }
         ensures { λ r. ⌜ r ≡ afterPair self (step (self .receiver) pair) ⌝ }
     {
         let pairs = self.pairs;
@@ -163,7 +168,7 @@ impl Listing {
         let ended = self.ended;
         let receiver = self.receiver;
         let both = [pair.0, pair.1];
-        let mut bytes = [0; 96];
+        let mut bytes = [0; LINE_LENGTH];
         let listed = list_pairs(receiver, pairs, refused, &both, 0, &mut bytes, 0);
         let next = listed.receiver;
         Listing {
@@ -190,7 +195,7 @@ impl Listing {
         let refused = self.refused;
         let ended = self.ended;
         let line = self.line;
-        if 16_777_216 <= pairs {
+        if MOST_PAIRS <= pairs {
             return self.refused_by(10, Line::new());
         }
         match half {
@@ -237,7 +242,7 @@ impl Listing {
                 }
             }
             Half::Byte(_) => {
-                if pairs < 16_777_216 {
+                if pairs < MOST_PAIRS {
                     return self.refused_by(9, line);
                 }
                 self.refused_by(10, line)
@@ -245,7 +250,7 @@ impl Listing {
         }
     }
 
-    // Whether the last line has been written.
+    // Whether the last line has been written: no call takes or writes anything more.
     pub fn is_done(self) -> bool
         ensures { λ r. ⌜ r ≡ isDone self ⌝ }
     {
@@ -286,7 +291,7 @@ impl Listing {
         let pairs = self.pairs;
         let refused = self.refused;
         if let Half::Absent = half {
-            if 2 <= input.len() - from && 96 <= out.len() - at && pairs < 16_777_216 {
+            if 2 <= input.len() - from && LINE_LENGTH <= out.len() - at && pairs < MOST_PAIRS {
                 let listed = list_pairs(receiver, pairs, refused, input, from, out, at);
                 let next = listed.receiver;
                 return Progress {
@@ -303,7 +308,13 @@ impl Listing {
         }
     }
 
-    // Takes bytes of the input and writes text into the output, as far as there is room. What waits goes first.
+    // Takes bytes of the input and writes text into the output, as far as there is room. What waits goes first, and while
+    // some of it has no room no byte is taken.
+    //
+    // A loop offers again what was not taken, with room for a byte at least, until the input is over; then it calls `end`, and
+    // `read` with no input. `is_done` ends it. Past the limit of pairs the listing ends by itself: after the byte that is
+    // refused 10 nothing more is taken, however often it is offered, so a loop that waits for its input to be taken would
+    // never end.
     pub fn read(self, input: &[u8], output: &mut [u8]) -> Progress
         ensures { λ r. ⌜ readOutcome r (now (output .exit)) ≡ readListing self (now (input .entry)) (now (output .entry)) ⌝ }
     {

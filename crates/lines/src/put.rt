@@ -117,26 +117,13 @@ pub(crate) fn put_number(out: &mut [u8], at: usize, number: u32) -> usize
     )
 }
 
-// With capitals. A `match` is one load.
+// With capitals.
 pub(crate) fn hex_digit(digit: u8) -> u8
     ensures { λ r. ⌜ r ≡ hexDigit (digit % 16) ⌝ }
 {
-    match digit % 16 {
-        0 => 0x30,
-        1 => 0x31,
-        2 => 0x32,
-        3 => 0x33,
-        4 => 0x34,
-        5 => 0x35,
-        6 => 0x36,
-        7 => 0x37,
-        8 => 0x38,
-        9 => 0x39,
-        10 => 0x41,
-        11 => 0x42,
-        12 => 0x43,
-        13 => 0x44,
-        14 => 0x45,
-        _ => 0x46,
+    let low = digit % 16;
+    if low < 10 {
+        return 0x30 + low;
     }
+    0x37 + low
 }

@@ -1,13 +1,12 @@
 // The words of the listing's lines, put into lent memory from a place on.
-ghost use mathlib.Core.Bool.{false};
-ghost use mathlib.Core.List.{[], _∷_, _++_};
+ghost use mathlib.Core.List.{_∷_};
 ghost use mathlib.Core.Path.{_≡_};
 ghost use Prim.Native.Nat.{_+_, _≤_, _<_};
 ghost use lib.ListN.{length};
-ghost use Rattle.code.specs.Characters.{points};
 ghost use Rattle.event.specs.declared.event.Cea608.the-variants as event;
+ghost use Rattle.lines.specs.Line.{lineLength};
 ghost use Rattle.lines.specs.Put.{putAll};
-ghost use Rattle.lines.specs.Words.{channelDigit, characterWord, eventWords, flagDigit, isText, lastLine, line, lineOf, modeWord, refusedWords, wordFor};
+ghost use Rattle.lines.specs.Words.{channelDigit, characterWord, eventWords, flagDigit, lastLine, line, lineOf, modeWord, refusedWords, wordFor};
 ghost use Rattle.receiver.specs.Heard.{heardOutcome};
 use crate::put::hex_digit;
 use crate::put::put;
@@ -73,8 +72,8 @@ pub(crate) fn put_row(
     let row = put_decimal(out, spaced, preamble.row() as u32);
     let between = put(out, row, 0x20);
     let style = put_decimal(out, between, preamble.code().style() as u32);
-    let behind = put(out, style, 0x20);
-    put(out, behind, flag_digit(preamble.underline()))
+    let after = put(out, style, 0x20);
+    put(out, after, flag_digit(preamble.underline()))
 }
 
 pub(crate) fn put_mid(out: &mut [u8], at: usize, channel: Channel, mid_row: MidRow) -> usize
@@ -83,8 +82,8 @@ pub(crate) fn put_mid(out: &mut [u8], at: usize, channel: Channel, mid_row: MidR
     let said = put_for(out, at, b"mid ", channel);
     let spaced = put(out, said, 0x20);
     let colour = put_decimal(out, spaced, mid_row.number() as u32);
-    let behind = put(out, colour, 0x20);
-    put(out, behind, flag_digit(mid_row.underline()))
+    let after = put(out, colour, 0x20);
+    put(out, after, flag_digit(mid_row.underline()))
 }
 
 pub(crate) fn put_new_mode(out: &mut [u8], at: usize, channel: Channel, mode: Mode) -> usize
@@ -101,26 +100,6 @@ pub(crate) fn put_tab(out: &mut [u8], at: usize, channel: Channel, columns: u8) 
     let said = put_for(out, at, b"tab ", channel);
     let spaced = put(out, said, 0x20);
     put_decimal(out, spaced, columns as u32)
-}
-
-// The words of an event that is no text.
-pub(crate) fn put_event(out: &mut [u8], at: usize, event: Cea608) -> usize
-    requires { ⌜ isText event ≡ false ⌝ }
-    ensures { λ r. ⌜ (r, now (out .exit)) ≡ putAll (at, now (out .entry)) (eventWords event) ⌝ }
-{
-    match event {
-        Cea608::Text(_) => at,
-        Cea608::NewMode(channel, mode) => put_new_mode(out, at, channel, mode),
-        Cea608::EraseDisplay(channel) => put_for(out, at, b"erase ", channel),
-        Cea608::EraseNonDisplay(channel) => put_for(out, at, b"erasehidden ", channel),
-        Cea608::CarriageReturn(channel) => put_for(out, at, b"return ", channel),
-        Cea608::Backspace(channel) => put_for(out, at, b"back ", channel),
-        Cea608::EndOfCaption(channel) => put_for(out, at, b"end ", channel),
-        Cea608::TabOffset(channel, columns) => put_tab(out, at, channel, columns),
-        Cea608::DeleteToEndOfRow(channel) => put_for(out, at, b"delete ", channel),
-        Cea608::Preamble(channel, preamble) => put_row(out, at, channel, preamble),
-        Cea608::MidRowChange(channel, mid_row) => put_mid(out, at, channel, mid_row),
-    }
 }
 
 // A space, and a code point as four hex digits or a dash, where there is room for both.
@@ -142,43 +121,50 @@ pub(crate) fn put_point(out: &mut [u8], at: usize, character: Character) -> usiz
     }
 }
 
-// What stands between the number of a line of text and its characters, where there is room.
-pub(crate) fn put_text_word(out: &mut [u8], at: usize, channel: Channel, flag: bool) -> usize
-    requires { ⌜ at + 9 ≤ length (now out) ⌝ }
-    ensures { λ r. ⌜ (r, now (out .exit)) ≡ putAll (at, now (out .entry)) (0x20 ∷ (wordFor (points "text ") channel ++ (0x20 ∷ flagDigit flag ∷ []))) ⌝ }
-{
-    let begun = put_four(out, at, 0x20, 0x74, 0x65, 0x78);
-    let said = put_four(out, begun, 0x74, 0x20, channel_digit(channel), 0x20);
-    put_one(out, said, flag_digit(flag))
-}
-
-// The line of text of the pair with this number, where there is room for the longest. Most lines are such.
-pub(crate) fn put_text_line(out: &mut [u8], at: usize, number: u32, text: Text) -> usize
-    requires { ⌜ (number < 100000000) × (at + 28 ≤ length (now out)) ⌝ }
-    ensures { λ r. ⌜ (r, now (out .exit)) ≡ putAll (at, now (out .entry)) (line number (eventWords (event.Text text))) ⌝ }
+// The words of text, where there is room: most events are such, and no byte is tested.
+pub(crate) fn put_text(out: &mut [u8], at: usize, text: Text) -> usize
+    requires { ⌜ at + 18 ≤ length (now out) ⌝ }
+    ensures { λ r. ⌜ (r, now (out .exit)) ≡ putAll (at, now (out .entry)) (eventWords (event.Text text)) ⌝ }
 {
     let channel = text.channel;
     let first = text.char1;
     let second = text.char2;
-    let numbered = put_number(out, at, number);
-    let said = put_text_word(out, numbered, channel, text.needs_backspace);
+    let flag = flag_digit(text.needs_backspace);
+    let word = put_four(out, at, 0x74, 0x65, 0x78, 0x74);
+    let said = put_four(out, word, 0x20, channel_digit(channel), 0x20, flag);
     let half = put_point(out, said, first);
-    let end = put_point(out, half, second);
-    put_one(out, end, 0x0A)
+    put_point(out, half, second)
 }
 
-// The line of an event of the pair with this number, where there is room for a line of text.
+// The words of an event, where there is room for those of text.
+pub(crate) fn put_event(out: &mut [u8], at: usize, event: Cea608) -> usize
+    requires { ⌜ at + 18 ≤ length (now out) ⌝ }
+    ensures { λ r. ⌜ (r, now (out .exit)) ≡ putAll (at, now (out .entry)) (eventWords event) ⌝ }
+{
+    match event {
+        Cea608::Text(text) => put_text(out, at, text),
+        Cea608::NewMode(channel, mode) => put_new_mode(out, at, channel, mode),
+        Cea608::EraseDisplay(channel) => put_for(out, at, b"erase ", channel),
+        Cea608::EraseNonDisplay(channel) => put_for(out, at, b"erasehidden ", channel),
+        Cea608::CarriageReturn(channel) => put_for(out, at, b"return ", channel),
+        Cea608::Backspace(channel) => put_for(out, at, b"back ", channel),
+        Cea608::EndOfCaption(channel) => put_for(out, at, b"end ", channel),
+        Cea608::TabOffset(channel, columns) => put_tab(out, at, channel, columns),
+        Cea608::DeleteToEndOfRow(channel) => put_for(out, at, b"delete ", channel),
+        Cea608::Preamble(channel, preamble) => put_row(out, at, channel, preamble),
+        Cea608::MidRowChange(channel, mid_row) => put_mid(out, at, channel, mid_row),
+    }
+}
+
+// The line of an event of the pair with this number, where there is room for any line.
 pub(crate) fn put_event_line(out: &mut [u8], at: usize, number: u32, event: Cea608) -> usize
-    requires { ⌜ (number < 100000000) × (at + 28 ≤ length (now out)) ⌝ }
+    requires { ⌜ (number < 100000000) × (at + lineLength ≤ length (now out)) ⌝ }
     ensures { λ r. ⌜ (r, now (out .exit)) ≡ putAll (at, now (out .entry)) (line number (eventWords event)) ⌝ }
 {
-    if let Cea608::Text(text) = event {
-        return put_text_line(out, at, number, text);
-    }
-    let numbered = put_decimal(out, at, number);
-    let spaced = put(out, numbered, 0x20);
+    let numbered = put_number(out, at, number);
+    let spaced = put_one(out, numbered, 0x20);
     let said = put_event(out, spaced, event);
-    put(out, said, 0x0A)
+    put_one(out, said, 0x0A)
 }
 
 // The line of a refusal at the pair with this number.
@@ -194,7 +180,7 @@ pub(crate) fn put_refused_line(out: &mut [u8], at: usize, number: u32, refusal: 
 
 // The line of what a pair gave, if it gave anything, with the same room.
 pub(crate) fn put_line_of(out: &mut [u8], at: usize, number: u32, heard: Heard) -> usize
-    requires { ⌜ (number < 100000000) × (at + 28 ≤ length (now out)) ⌝ }
+    requires { ⌜ (number < 100000000) × (at + lineLength ≤ length (now out)) ⌝ }
     ensures { λ r. ⌜ (r, now (out .exit)) ≡ putAll (at, now (out .entry)) (lineOf number (heardOutcome heard)) ⌝ }
 {
     match heard {

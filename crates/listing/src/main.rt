@@ -2,8 +2,13 @@
 //
 // Where a file cannot be opened, or a read or a write fails, standard error says so and the program stops. The listing that
 // it was in then has no last line, and no later file is listed.
-ghost use Prim.Native.Nat.{_<_};
-ghost use lib.ListN.{length};
+ghost use mathlib.Core.Bool.{cond, false};
+ghost use mathlib.Core.Logic.{_⊎_};
+ghost use mathlib.Core.Path.{_≡_};
+ghost use Prim.Native.Nat.{ℕ, _<_};
+ghost use lib.ListN.{length, take};
+ghost use Rattle.lines.specs.Loops.{afterBlock};
+ghost use Rattle.lines.specs.Pieces.{wholePiece};
 use libc::STDERR_FILENO;
 use libc::STDIN_FILENO;
 use libc::STDOUT_FILENO;
@@ -80,6 +85,7 @@ struct Done {
 // bytes are the end of the stream; a read that a signal interrupted is made again.
 fn list_block(from: i32, name: &[u8], input: &mut [u8], output: &mut [u8], begun: Listing) -> Done
     requires { ⌜ 0 < length (now output) ⌝ }
+    ensures { λ r. ⌜ (r .failed ≡ false → (r .listing ≡ begun) ⊎ ((n : ℕ) × (r .listing ≡ afterBlock begun (take n (now (input .exit)))))) ⌝ }
 {
     let got = libc::read(from, input);
     if got < 0 {
@@ -100,9 +106,11 @@ fn list_block(from: i32, name: &[u8], input: &mut [u8], output: &mut [u8], begun
     write_lines(&input[..count], output, begun)
 }
 
-// Writes the lines of these bytes. An output that is not full has all that there is to say.
+// Writes what waits and the lines of these bytes: an output that is not full has all that there is to say. Where a write fails,
+// the listing is as it was.
 fn write_lines(input: &[u8], output: &mut [u8], begun: Listing) -> Done
     requires { ⌜ 0 < length (now output) ⌝ }
+    ensures { λ r. ⌜ r .listing ≡ cond (r .failed) begun (wholePiece begun (now (input .entry)) .next) ⌝ }
 {
     let mut listing = begun;
     let mut at: usize = 0;
@@ -115,7 +123,7 @@ fn write_lines(input: &[u8], output: &mut [u8], begun: Listing) -> Done
             fail(b"standard output");
             return Done {
                 failed: true,
-                listing: next,
+                listing: begun,
             };
         }
         listing = next;

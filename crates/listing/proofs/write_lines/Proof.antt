@@ -1,25 +1,25 @@
--- `listing::write_lines` is safe and ends. The invariant: the place is inside the input, and the output keeps its length. The
--- measure is what the rest of the input and the line that waits can say at most: an output that is full said some of it.
+-- `listing::write_lines` meets its contract. The invariant: the place is inside the input, the output keeps its length, and
+-- what is left ends in the same state as the whole. The measure is the text that is still to come of what is left.
 -- Assumes nothing.
 use borrow.Author.Needs.{needs}
-use mathlib.Core.Path.{_≡_, sym, _∙_}
-use Prim.Native.Nat.{_+_, _-_, _*_, _≤_, _<_}
+use mathlib.Core.Path.{_≡_, refl, sym, _∙_}
+use Prim.Native.Nat.{_≤_, _<_}
 use native.Mathlib.Omega.{arith}
-use lib.ListN.{length}
+use lib.ListN.{drop, length}
 use lib.Seq.{length-take-le}
-use Rattle.lines.specs.Line.{waiting}
-use Rattle.listing.proofs.Turns as turns
+use Rattle.lines.specs.Pieces.{wholePiece}
+use Rattle.listing.proofs.FromPlace as call
 use Rattle.listing.proofs.write_lines.Statement.{statement}
 use Rattle.listing.proofs.write_lines.Tie as tie
 
 abbrev Inv-loop : tie.InvT-loop
-Inv-loop input output₀ listing₀ at₀ t10 output listing at = (at ≤ length input) × (length output ≡ length output₀) × (0 < length output)
+Inv-loop input output₀ begun listing₀ at₀ t10 output listing at = (at ≤ length input) × (length output ≡ length output₀) × (0 < length output) × (wholePiece listing (drop at input) .next ≡ wholePiece begun input .next)
 
 abbrev μ-loop : tie.MeasureT-loop
-μ-loop input output₀ listing₀ at₀ t10 output listing at = 96 * (length input - at) + waiting (listing .line)
+μ-loop input output₀ begun listing₀ at₀ t10 output listing at = length (wholePiece listing (drop at input) .text)
 
 loop-holds : tie.Need-loop-holds Inv-loop μ-loop
-loop-holds c = search needs
+loop-holds c = (omega arith, refl, c .before .before .pre, refl)
 
 sub-read : tie.Need-sub-read Inv-loop μ-loop
 sub-read c = search needs
@@ -35,9 +35,10 @@ read-requires c κs = search needs
 
 slice-reshare-prefix-write-all : tie.Need-slice-reshare-prefix-write-all Inv-loop μ-loop
 slice-reshare-prefix-write-all c =
+    let start = c .before .before .before .before .before .before .before .before .before in
     let loop = c .before .before .before .before .before .before .loop in
     let read = c .before .before .before .read in
-    omega (arith, turns.writes-no-more (loop .listing) _ (loop .output) (read .result) _ (read .ensures), turns.same-room (loop .listing) _ (loop .output) (read .result) _ (read .ensures))
+    call.writes-inside (loop .listing) (start .args .input .now) (loop .at) (loop .output) (read .result) _ (read .ensures)
 
 slice-aggregate-write-all : tie.Need-slice-aggregate-write-all Inv-loop μ-loop
 slice-aggregate-write-all c = sym (length-take-le _ _ (slice-reshare-prefix-write-all (c .before)))
@@ -55,35 +56,43 @@ same-length : tie.Need-same-length Inv-loop μ-loop
 same-length c = search needs
 
 returns : tie.Need-returns Inv-loop μ-loop
-returns c = search needs
+returns c = refl
 
 add-at : tie.Need-add-at Inv-loop μ-loop
 add-at c =
+    let start = c .before .before .before .before .before .before .before .before .before .before .before .before in
     let loop = c .before .before .before .before .before .before .before .before .before .loop in
     let read = c .before .before .before .before .before .before .read in
-    omega (arith, turns.takes-no-more (loop .listing) _ (loop .output) (read .result) _ (read .ensures))
+    omega (arith, call.stays-inside (loop .listing) (start .args .input .now) (loop .at) (loop .output) (read .result) _ (read .ensures) (loop .inv .0))
 
 loop-less : tie.Need-loop-less Inv-loop μ-loop
 loop-less c =
+    let start = c .before .before .before .before .before .before .before .before .before .before .before .before .before in
     let loop = c .before .before .before .before .before .before .before .before .before .before .loop in
     let read = c .before .before .before .before .before .before .before .read in
-    turns.falls (loop .listing) _ (loop .output) (read .result) _ (read .ensures) _ (loop .at) (loop .inv .0) (turns.part-length (c .before .before .before .before .before .before .before .before .before .before .before .before .before .args .input .now) (loop .at)) (loop .inv .2) (c .if2 .left)
+    call.less-to-write (loop .listing) (start .args .input .now) (loop .at) (loop .output) (read .result) _ (read .ensures) (loop .inv .2) (c .if2 .left)
 
 loop-again : tie.Need-loop-again Inv-loop μ-loop
 loop-again c =
+    let start = c .before .before .before .before .before .before .before .before .before .before .before .before .before in
     let loop = c .before .before .before .before .before .before .before .before .before .before .loop in
     let read = c .before .before .before .before .before .before .before .read in
-    let same = turns.same-room (loop .listing) _ (loop .output) (read .result) _ (read .ensures) in (
-      omega (arith, turns.takes-no-more (loop .listing) _ (loop .output) (read .result) _ (read .ensures)),
+    let same = call.same-room (loop .listing) (start .args .input .now) (loop .at) (loop .output) (read .result) _ (read .ensures) in (
+      call.stays-inside (loop .listing) (start .args .input .now) (loop .at) (loop .output) (read .result) _ (read .ensures) (loop .inv .0),
       same ∙ loop .inv .1,
       omega (arith, same, loop .inv .2),
+      call.ends-the-same (loop .listing) (start .args .input .now) (loop .at) (loop .output) (read .result) _ (read .ensures) ∙ loop .inv .3,
     )
 
 same-length-2 : tie.Need-same-length-2 Inv-loop μ-loop
 same-length-2 c = search needs
 
 returns-2 : tie.Need-returns-2 Inv-loop μ-loop
-returns-2 c = search needs
+returns-2 c =
+    let start = c .before .before .before .before .before .before .before .before .before .before .before .before .before in
+    let loop = c .before .before .before .before .before .before .before .before .before .before .loop in
+    let read = c .before .before .before .before .before .before .before .read in
+    call.all-where-not-full (loop .listing) (start .args .input .now) (loop .at) (loop .output) (read .result) _ (read .ensures) (c .if2 .taken) ∙ loop .inv .3
 
 pub write-lines-spec : {M : Type 1} → statement M
 write-lines-spec =

@@ -10,6 +10,7 @@ use Prim.Native.Nat.{ℕ, _+_, _-_, _≤_}
 use native.Mathlib.Omega.{arith}
 use lib.ListN.{getD, length}
 use Rattle.code.specs.Pair.{pair}
+use Rattle.lines.specs.Listing.{mostPairs}
 use Rattle.lines.proofs.WholePairs.{pair-taken, place-inside, same-memory}
 use Rattle.lines.specs.Midway.{HasPair, comesTo}
 use Rattle.lines.specs.Pieces.{betweenPairs, counted}
@@ -78,7 +79,7 @@ loop-again c =
     let d = cr .before .before .before .before .before .before .decode in
     let put = cr .before .before .before .put-line-of in
     let inside = place-inside input (loop .taken) (loop .receiver) (loop .pairs) (loop .refused) (loop .out) (loop .written) (loop .inv .3 .0) (loop .inv .3 .1) (loop .inv .3 .2) _ (d .ensures) _ (put .ensures) in
-    let less = leb-false 16777216 (loop .pairs + 1) (c .if3 .left) in (
+    let less = leb-false mostPairs (loop .pairs + 1) (c .if3 .left) in (
       pair-taken input (loop .taken) (loop .receiver) (loop .pairs) (loop .refused) (loop .out) (loop .written) (loop .inv .3 .0) (loop .inv .3 .1) (loop .inv .3 .2) _ (d .ensures) _ (put .ensures) _ (cr .count-refusal .ensures) ∙ loop .inv .0,
       same-memory input (loop .taken) (loop .receiver) (loop .pairs) (loop .refused) (loop .out) (loop .written) (loop .inv .3 .0) (loop .inv .3 .1) (loop .inv .3 .2) _ (d .ensures) _ (put .ensures) ∙ loop .inv .1,
       omega (arith, loop .inv .2),

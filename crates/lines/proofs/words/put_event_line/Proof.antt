@@ -1,72 +1,64 @@
--- `lines::words::put_event_line` meets its contract: a line of text at once, any other word by word.
+-- `lines::words::put_event_line` meets its contract: the number, a space, the event's words and the end of the line, each with
+-- the room that those before it leave.
 -- Assumes nothing.
 use borrow.Author.Needs.{needs}
-use denote.Enum.Declared.{tagOf}
-use mathlib.Core.Bool.{false}
-use mathlib.Core.List.{List, [], _∷_}
-use mathlib.Core.Path.{_≡_, refl}
-use Prim.Native.Nat.{ℕ}
-use types.Run.{OneOf, miss}
-use Rattle.event.proofs.event.Cea608.{the-type}
-use Rattle.event.specs.declared.event.Cea608.{Cea608}
-use Rattle.event.specs.declared.event.Cea608.the-variants as event
-use Rattle.lines.proofs.Puts.{byte, chain, word, _then_}
-use Rattle.lines.specs.Words.{decimal, eventWords, isText}
+use mathlib.Core.List.{[], _∷_}
+use native.Mathlib.Omega.{arith}
+use lib.ListN.{length-append}
+use Rattle.lines.proofs.Bounds.{eight-digits, event-short}
+use Rattle.lines.proofs.Puts.{byte, chain, left, word, _then_}
+use Rattle.lines.specs.Words.{decimal, eventWords}
 use Rattle.lines.proofs.words.put_event_line.Statement.{statement}
 use Rattle.lines.proofs.words.put_event_line.Tie as tie
 
--- an event that is no text; the numbers are those of the kinds that are left
-abbrev others : List ℕ
-others = 1 ∷ 2 ∷ 3 ∷ 4 ∷ 5 ∷ 6 ∷ 7 ∷ 8 ∷ 9 ∷ 10 ∷ []
+put-number-requires : tie.Need-put-number-requires
+put-number-requires c κs = search needs
 
-no-text : (e : Cea608) → OneOf others (tagOf the-type e) → isText e ≡ false
-no-text (event.Text t) left = absurd (miss others 0 tt left)
-no-text (event.NewMode ch m) left = refl
-no-text (event.EraseDisplay ch) left = refl
-no-text (event.EraseNonDisplay ch) left = refl
-no-text (event.CarriageReturn ch) left = refl
-no-text (event.Backspace ch) left = refl
-no-text (event.EndOfCaption ch) left = refl
-no-text (event.TabOffset ch n) left = refl
-no-text (event.DeleteToEndOfRow ch) left = refl
-no-text (event.Preamble ch p) left = refl
-no-text (event.MidRowChange ch m) left = refl
+put-one-requires : tie.Need-put-one-requires
+put-one-requires c κs =
+    let begun = c .before .before .before .before .before .before in
+    let n = begun .args .number in
+    left 8 1 (word (begun .args .at, begun .args .out .now) (decimal n) (c .before .before .before .put-number .ensures))
+    (eight-digits n (begun .pre .0)) (omega (arith, begun .pre .1))
 
-enum-known-event : tie.Need-enum-known-event
-enum-known-event c = search needs
+put-event-requires : tie.Need-put-event-requires
+put-event-requires c κs =
+    let begun = c .before .before .before .before .before .before .before .before .before .before in
+    let n = begun .args .number in
+    left 9 18 (word (begun .args .at, begun .args .out .now) (decimal n) (c .before .before .before .before .before .before .before .put-number .ensures)
+    then byte _ 0x20 (c .before .before .before .put-one .ensures))
+    (omega (arith, eight-digits n (begun .pre .0), length-append (decimal n) (0x20 ∷ []))) (omega (arith, begun .pre .1))
 
-put-text-line-requires : tie.Need-put-text-line-requires
-put-text-line-requires c κs = search needs
+put-one-requires-2 : tie.Need-put-one-requires-2
+put-one-requires-2 c κs =
+    let begun = c .before .before .before .before .before .before .before .before .before .before .before .before .before .before in
+    let n = begun .args .number in
+    let words = eventWords (begun .args .event) in
+    left 41 1 (word (begun .args .at, begun .args .out .now) (decimal n) (c .before .before .before .before .before .before .before .before .before .before .before .put-number .ensures)
+    then byte _ 0x20 (c .before .before .before .before .before .before .before .put-one .ensures)
+    then word _ words (c .before .before .before .put-event .ensures))
+    (omega (arith, eight-digits n (begun .pre .0), event-short (begun .args .event), length-append (decimal n) (0x20 ∷ words)))
+    (omega (arith, begun .pre .1))
 
 same-length : tie.Need-same-length
 same-length c = search needs
 
 returns : tie.Need-returns
-returns c = rw (c .before .before .before .before .before .event .given .1) (c .before .before .put-text-line .ensures)
-
-put-decimal-requires : tie.Need-put-decimal-requires
-put-decimal-requires c κs = search needs
-
-put-requires : tie.Need-put-requires
-put-requires c κs = search needs
-
-put-event-requires : tie.Need-put-event-requires
-put-event-requires c κs = no-text (c .before .before .before .before .before .before .before .before .before .before .before .args .event) (c .before .before .before .before .before .before .before .before .before .match .keys2)
-
-put-requires-2 : tie.Need-put-requires-2
-put-requires-2 c κs = search needs
-
-same-length-2 : tie.Need-same-length-2
-same-length-2 c = search needs
-
-returns-2 : tie.Need-returns-2
-returns-2 c =
-    let args = c .before .before .before .before .before .before .before .before .before .before .before .before .before .before .before .before .before .before .args in
+returns c =
+    let begun = c .before .before .before .before .before .before .before .before .before .before .before .before .before .before .before .before .before in
     chain
-    (word (args .at, args .out .now) (decimal (args .number)) (c .before .before .before .before .before .before .before .before .before .before .before .before .before .before .put-decimal .ensures)
-    then byte _ 0x20 (c .before .before .before .before .before .before .before .before .before .before .put .ensures)
-    then word _ (eventWords (args .event)) (c .before .before .before .before .before .before .put-event .ensures)
-    then byte _ 0x0A (c .before .before .put2 .ensures))
+    (word (begun .args .at, begun .args .out .now) (decimal (begun .args .number)) (c .before .before .before .before .before .before .before .before .before .before .before .before .before .before .put-number .ensures)
+    then byte _ 0x20 (c .before .before .before .before .before .before .before .before .before .before .put-one .ensures)
+    then word _ (eventWords (begun .args .event)) (c .before .before .before .before .before .before .put-event .ensures)
+    then byte _ 0x0A (c .before .before .put-one2 .ensures))
 
 pub put-event-line-spec : {M : Type 1} → statement M
-put-event-line-spec = tie.close (tie.spec enum-known-event put-text-line-requires same-length returns put-decimal-requires put-requires put-event-requires put-requires-2 same-length-2 returns-2)
+put-event-line-spec =
+    tie.close
+    (tie.spec
+    put-number-requires
+    put-one-requires
+    put-event-requires
+    put-one-requires-2
+    same-length
+    returns)

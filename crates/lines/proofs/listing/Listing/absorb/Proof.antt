@@ -5,6 +5,7 @@ use borrow.Author.Tests.{le-leb, lt-leb}
 use mathlib.Core.Path.{_≡_, ap, _∙_}
 use Prim.Native.Nat.{_≤_}
 use native.Mathlib.Omega.{arith}
+use Rattle.lines.specs.Listing.{mostPairs}
 use Rattle.lines.specs.Pieces.{absorbed, refusedBy}
 use Rattle.lines.proofs.listing.Listing.absorb.Statement.{statement}
 use Rattle.lines.proofs.listing.Listing.absorb.Tie as tie
@@ -19,9 +20,9 @@ returns : tie.Need-returns
 unfolding absorbed
 returns c =
     let l = c .before .before .before .before .before .args .self in
-    let past : 16777216 ≤ l .pairs = omega (arith, c .before .before .if1 .taken) in
+    let past : mostPairs ≤ l .pairs = omega (arith, c .before .before .if1 .taken) in
     let told : c .refused-by .result ≡ refusedBy 10 l (c .before .new .result) = c .refused-by .ensures in
-    rw (le-leb 16777216 (l .pairs) past) (told ∙ ap (refusedBy 10 l) (c .before .new .ensures))
+    rw (le-leb mostPairs (l .pairs) past) (told ∙ ap (refusedBy 10 l) (c .before .new .ensures))
 
 enum-told : tie.Need-enum-told
 enum-told c = search needs

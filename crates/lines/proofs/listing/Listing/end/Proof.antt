@@ -4,6 +4,7 @@ use borrow.Author.Needs.{needs}
 use borrow.Author.Tests.{le-leb, lt-leb}
 use mathlib.Core.Bool.{true}
 use mathlib.Core.Path.{ap}
+use Rattle.lines.specs.Listing.{mostPairs}
 use Rattle.lines.specs.Pieces.{endedListing}
 use Rattle.lines.specs.Put.{Placed}
 use Rattle.lines.specs.declared.listing.Half.the-variants as half
@@ -32,7 +33,7 @@ refused-by-requires c κs = search needs
 
 returns-2 : tie.Need-returns-2
 unfolding endedListing
-returns-2 c = rw (c .before .before .before .before .before .before .before .if1 .left, c .before .before .enum-told2 .given .1, lt-leb 16777216 (c .before .before .before .before .before .before .before .before .args .self .pairs) (c .before .if2 .taken)) (c .refused-by .ensures)
+returns-2 c = rw (c .before .before .before .before .before .before .before .if1 .left, c .before .before .enum-told2 .given .1, lt-leb mostPairs (c .before .before .before .before .before .before .before .before .args .self .pairs) (c .before .if2 .taken)) (c .refused-by .ensures)
 
 refused-by-requires-2 : tie.Need-refused-by-requires-2
 refused-by-requires-2 c κs = search needs
@@ -46,7 +47,7 @@ returns-3 c =
 
 returns-4 : tie.Need-returns-4
 unfolding endedListing
-returns-4 c = rw (c .before .before .before .before .before .before .before .if1 .left, c .before .before .enum-told2 .given .1, le-leb 16777216 (c .before .before .before .before .before .before .before .before .args .self .pairs) (c .before .if2 .left)) (c .refused-by2 .ensures)
+returns-4 c = rw (c .before .before .before .before .before .before .before .if1 .left, c .before .before .enum-told2 .given .1, le-leb mostPairs (c .before .before .before .before .before .before .before .before .args .self .pairs) (c .before .if2 .left)) (c .refused-by2 .ensures)
 
 pub end-spec : {M : Type 1} → statement M
 end-spec = tie.close (tie.spec returns enum-told slice-aggregate-put-last-line put-last-line-requires enum-told-2 refused-by-requires returns-2 refused-by-requires-2 returns-3 returns-4)

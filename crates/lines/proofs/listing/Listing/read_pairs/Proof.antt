@@ -5,6 +5,7 @@ use borrow.Author.Needs.{needs}
 use borrow.Author.Tests.{leb-true, ltb-true}
 use mathlib.Core.Path.{refl, ap, sym, _∙_}
 use native.Mathlib.Omega.{arith}
+use Rattle.lines.specs.Listing.{mostPairs}
 use Rattle.lines.proofs.WholePairs.{as-between-pairs}
 use Rattle.lines.specs.Midway.{comesTo}
 use Rattle.lines.specs.declared.listing.Listing.{Listing}
@@ -23,7 +24,7 @@ sub-if2 c = search needs
 list-pairs-requires : tie.Need-list-pairs-requires
 list-pairs-requires c κs =
     let begun = c .before .before .before .before .before .before .before .before .before in
-    (omega (arith, c .before .before .before .if1 .taken, begun .pre .2), omega (arith, leb-true, c .before .before .if2 .taken, begun .pre .3), ltb-true (begun .args .self .pairs) 16777216 (c .before .if3 .taken))
+    (omega (arith, c .before .before .before .if1 .taken, begun .pre .2), omega (arith, leb-true, c .before .before .if2 .taken, begun .pre .3), ltb-true (begun .args .self .pairs) mostPairs (c .before .if3 .taken))
 
 between-pairs-requires : tie.Need-between-pairs-requires
 between-pairs-requires c κs = search needs
