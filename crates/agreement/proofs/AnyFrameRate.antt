@@ -4,11 +4,10 @@
 -- Assumes nothing.
 use mathlib.Core.Bool.{Bool, true, false, cond}
 use mathlib.Core.List.{List, [], _∷_}
-use mathlib.Core.Option.{Option, none}
+use mathlib.Core.Option.{Option}
 use mathlib.Core.Path.{_≡_, refl, ap, sym, subst, _∙_}
 use lib.Count.{ones, onesIn}
 use lib.ListN.{replicate}
-use Rattle.code.proofs.Written.{padding-read}
 use Rattle.code.specs.Characters.{standard}
 use Rattle.code.specs.Letter.{letterAt}
 use Rattle.code.specs.Outcome.{Outcome, answer, refused}
@@ -30,13 +29,13 @@ use Rattle.receiver.specs.Reading.{afterOnce, afterReadingOnce, answers, events
 use Rattle.receiver.specs.Receiver.{Stepped, fieldAfter, fresh, heardText, state, textFor}
 use Rattle.receiver.specs.declared.state.Cea608State.{Cea608State}
 use Rattle.receiver.specs.declared.state.LastChannel.{LastChannel}
-use Rattle.receiver.specs.declared.state.LastChannel.the-variants as channel
 use Rattle.receiver.specs.declared.state.LastPair.the-variants as last
 use Rattle.sender.proofs.Refines.{fresh-good}
 use Rattle.sender.specs.Calls.{Call, pushing, draining}
 use Rattle.sender.specs.Drain.{drainSender}
 use Rattle.sender.specs.Sender.{freshSender, pushSender, sendSender, wellFormed}
 use Rattle.sender.specs.Sending.{send}
+use Rattle.agreement.proofs.Padding.{padding-once}
 use Rattle.agreement.proofs.Agreement.{odd-pairs-agree}
 use Rattle.agreement.proofs.DecodedOnce.{Same, events-after}
 use Rattle.agreement.proofs.Doubled.{queue-pairs-are-odd}
@@ -73,26 +72,18 @@ module _ (s t : Cea608State) (p : Pair) (same : Same s t) where
   same-once : SameSteps (once s p) (once t p)
   same-once = same-reading (readPair (p .0) (p .1))
 
--- padding gives no event and leaves channel and field
-no-text : (ch : LastChannel) → textFor ch code.Nul code.Nul ≡ none
-no-text channel.Absent = refl
-no-text (channel.Known ch) = refl
-
-padding-once : (s : Cea608State) → once s padding ≡ (answer none, state (last.Was padding) (s .«last_channel») (s .«last_received_field»))
-padding-once s = ap (afterReadingOnce s padding) padding-read ∙ rw (no-text (s .«last_channel»))
-
 -- read once, two streams give the same events, and the same channel and field at the end
-abbrev pub ReadAlike : Cea608State → List Pair → Cea608State → List Pair → Type 0
-ReadAlike s ps t qs = (events (readOnce s ps) ≡ events (readOnce t qs)) × Same (afterOnce s ps) (afterOnce t qs)
+abbrev pub ReadOnceAlike : Cea608State → List Pair → Cea608State → List Pair → Type 0
+ReadOnceAlike s ps t qs = (events (readOnce s ps) ≡ events (readOnce t qs)) × Same (afterOnce s ps) (afterOnce t qs)
 
 -- so do pairs and their words
-module _ (p : Pair) (ps : List Pair) (go : (s t : Cea608State) → Same s t → ReadAlike s ps t (words ps)) where
-  padding-first : (s t : Cea608State) → Same s t → ReadAlike s (padding ∷ ps) t (words ps)
+module _ (p : Pair) (ps : List Pair) (go : (s t : Cea608State) → Same s t → ReadOnceAlike s ps t (words ps)) where
+  padding-first : (s t : Cea608State) → Same s t → ReadOnceAlike s (padding ∷ ps) t (words ps)
   padding-first s t same =
       rw (padding-once s)
       (go (state (last.Was padding) (s .«last_channel») (s .«last_received_field»)) t (record { channel = same .channel; field = same .field }))
 
-  word-first : (s t : Cea608State) → Same s t → ReadAlike s (p ∷ ps) t (p ∷ words ps)
+  word-first : (s t : Cea608State) → Same s t → ReadOnceAlike s (p ∷ ps) t (p ∷ words ps)
   word-first s t same =
       let now = same-once s t p same in
       let later = go (once s p .1) (once t p .1) (now .1) in (
@@ -100,18 +91,18 @@ module _ (p : Pair) (ps : List Pair) (go : (s t : Cea608State) → Same s t → 
         later .1,
       )
 
-  pair-first : (is : Bool) → samePair p padding ≡ is → (s t : Cea608State) → Same s t → ReadAlike s (p ∷ ps) t (cond is (words ps) (p ∷ words ps))
+  pair-first : (is : Bool) → samePair p padding ≡ is → (s t : Cea608State) → Same s t → ReadOnceAlike s (p ∷ ps) t (cond is (words ps) (p ∷ words ps))
   pair-first true e s t same =
-      subst (λ (q : Pair). ReadAlike s (q ∷ ps) t (words ps)) (sym (same-is-equal p padding e)) (padding-first s t same)
+      subst (λ (q : Pair). ReadOnceAlike s (q ∷ ps) t (words ps)) (sym (same-is-equal p padding e)) (padding-first s t same)
   pair-first false e s t same = word-first s t same
 
-words-read-alike : (ps : List Pair) (s t : Cea608State) → Same s t → ReadAlike s ps t (words ps)
+words-read-alike : (ps : List Pair) (s t : Cea608State) → Same s t → ReadOnceAlike s ps t (words ps)
 words-read-alike [] s t same = (refl, same)
 words-read-alike (p ∷ ps) s t same =
     pair-first p ps (λ (x y : Cea608State) (alike : Same x y). words-read-alike ps x y alike) (samePair p padding) refl s t same
 
 -- and so do pairs of the same words, from any state
-pub same-words-read-alike : (s : Cea608State) (ps qs : List Pair) → words ps ≡ words qs → ReadAlike s ps s qs
+pub same-words-read-alike : (s : Cea608State) (ps qs : List Pair) → words ps ≡ words qs → ReadOnceAlike s ps s qs
 same-words-read-alike s ps qs same =
     let first = words-read-alike ps s s (record { channel = refl; field = refl }) in
     let second = words-read-alike qs s s (record { channel = refl; field = refl }) in (

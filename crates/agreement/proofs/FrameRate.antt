@@ -12,7 +12,7 @@ use lib.Dec.{eqb}
 use borrow.Author.Tests.{eqb-true}
 use Rattle.code.proofs.Both.{both-true}
 use Rattle.code.proofs.OneAnswer.{same}
-use Rattle.code.proofs.Written.{command-by-first-byte, odd-is-read, padding-read, read-as-command}
+use Rattle.code.proofs.Written.{command-by-first-byte, odd-is-read, read-as-command}
 use Rattle.code.specs.Outcome.{Outcome, answer, refused}
 use Rattle.code.specs.Parity.{isOdd, stripped}
 use Rattle.code.specs.Pair.{samePair}
@@ -22,6 +22,7 @@ use Rattle.code.specs.declared.code.Code.the-variants as code
 use Rattle.code.specs.declared.control.ControlCode.{ControlCode}
 use Rattle.code.specs.declared.pair.Pair.{Pair}
 use Rattle.event.specs.declared.event.Cea608.{Cea608}
+use Rattle.agreement.proofs.Padding.{afterPadding, padding-step}
 use Rattle.agreement.specs.FrameRate.{FrameRateLaw, MayRepad, ReadAlike, SetBy, Settled, Unchanged, awaits, commandIn, harmless, isNone, isSilent, nextRead, noRepeat}
 use Rattle.agreement.specs.Pairs.{padding}
 use Rattle.agreement.proofs.OneByOne.{same-is-equal}
@@ -30,7 +31,7 @@ use Rattle.receiver.proofs.Copies.{last-is-last}
 use Rattle.receiver.proofs.Step.{IsCommand, command-acts, command-once, even-is-refused-1, repeat-is-skipped}
 use Rattle.receiver.specs.Heard.{eventOf}
 use Rattle.receiver.specs.Reading.{after, answers}
-use Rattle.receiver.specs.Receiver.{afterReading, fieldAfter, fresh, heardCodes, isLast, state, step, Stepped, textFor}
+use Rattle.receiver.specs.Receiver.{afterReading, fieldAfter, fresh, heardCodes, isLast, state, step, Stepped}
 use Rattle.receiver.specs.declared.state.Cea608State.{Cea608State}
 use Rattle.receiver.specs.declared.state.LastChannel.{LastChannel}
 use Rattle.receiver.specs.declared.state.LastChannel.the-variants as channel
@@ -52,17 +53,6 @@ quiet-is-no-repeat p c y (last.Was q) e quiet =
     (sym (command-by-first-byte (p .0) (p .1) c y e)
     ∙ sym (ap (λ (b : ℕ). isCommand (stripped b)) (eqb-true (q .0) (p .0) t))
     ∙ quiet))
-
--- padding gives no event and leaves channel and field
-no-text : (ch : LastChannel) → textFor ch code.Nul code.Nul ≡ none
-no-text channel.Absent = refl
-no-text (channel.Known ch) = refl
-
-abbrev afterPadding : Cea608State → Cea608State
-afterPadding s = state (last.Was padding) (s .«last_channel») (s .«last_received_field»)
-
-pub padding-step : (s : Cea608State) → step s padding ≡ (answer none, afterPadding s)
-padding-step s = ap (afterReading s padding) padding-read ∙ rw (no-text (s .«last_channel»))
 
 -- a pair that is not the awaited repeat: another than the last pair, or none is awaited
 abbrev Other : Pair → LastPair → Type 0

@@ -7,6 +7,7 @@ pub mod Drains
 pub mod FrameRate
 pub mod Limits
 pub mod OneByOne
+pub mod Padding
 pub mod QueuedCommands
 pub mod Refused
 pub mod Repadded

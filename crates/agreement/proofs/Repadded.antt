@@ -4,18 +4,20 @@
 -- Assumes nothing.
 use mathlib.Core.Bool.{Bool, true, false, cond, true≢false}
 use mathlib.Core.List.{List, [], _∷_}
-use mathlib.Core.Option.{Option, none, some}
+use mathlib.Core.Option.{Option}
 use mathlib.Core.Path.{_≡_, refl, ap, sym, _∙_}
 use lib.Count.{ones, onesIn}
 use Rattle.code.specs.Channel.{channelOne}
-use Rattle.code.specs.Outcome.{Outcome, answer, refused}
+use Rattle.code.specs.Outcome.{Outcome}
 use Rattle.code.specs.Pair.{samePair}
 use Rattle.code.specs.Read.{readPair}
 use Rattle.code.specs.Pair.{pair}
 use Rattle.code.specs.declared.pair.Pair.{Pair}
 use Rattle.event.specs.declared.event.Cea608.{Cea608}
 use Rattle.event.specs.declared.event.Cea608.the-variants as event
-use Rattle.agreement.proofs.FrameRate.{frame-rate-law, may-repad-changes-nothing, padding-step, reached-may-repad}
+use Rattle.agreement.proofs.DecodedOnce.{events-after}
+use Rattle.agreement.proofs.FrameRate.{frame-rate-law, may-repad-changes-nothing, reached-may-repad}
+use Rattle.agreement.proofs.Padding.{padding-step}
 use Rattle.agreement.proofs.OneByOne.{same-is-equal}
 use Rattle.agreement.specs.FrameRate.{Repadded, RepaddedLaw, Unchanged, harmless, toOthers}
 use Rattle.agreement.specs.FrameRate as repadded
@@ -50,12 +52,6 @@ repadded-law s ps qs (repadded.takes-out {ps = ps′} may r) =
       same-field = sym (same .same-field) ∙ later .same-field;
     }
 
--- an answer before lists of the same events
-answered-before : (o : Outcome (Option Cea608)) (xs ys : List (Outcome (Option Cea608))) → events xs ≡ events ys → events (o ∷ xs) ≡ events (o ∷ ys)
-answered-before (answer none) xs ys e = e
-answered-before (answer (some x)) xs ys e = ap (λ (l : List Cea608). x ∷ l) e
-answered-before (refused n) xs ys e = e
-
 -- padding gives no event, so the events are those of the other pairs
 module _ (s : Cea608State) (p : Pair) (os xs : List (Outcome (Option Cea608))) where
   padding-is-silent : samePair padding p ≡ true → events (step s p .0 ∷ os) ≡ events os
@@ -65,7 +61,7 @@ module _ (s : Cea608State) (p : Pair) (os xs : List (Outcome (Option Cea608))) w
 
   others-first : (t : Bool) → samePair padding p ≡ t → events xs ≡ events os → events (cond t xs (step s p .0 ∷ xs)) ≡ events (step s p .0 ∷ os)
   others-first true is e = e ∙ sym (padding-is-silent is)
-  others-first false is e = answered-before (step s p .0) xs os e
+  others-first false is e = events-after (step s p .0) xs os e
 
 events-of-others : (s : Cea608State) (ps : List Pair) → events (toOthers ps (answers s ps)) ≡ events (answers s ps)
 events-of-others s [] = refl

@@ -9,21 +9,14 @@ use Rattle.code.specs.Outcome.{Outcome, answer, refused}
 use Rattle.code.specs.Read.{readPair}
 use Rattle.code.specs.declared.code.Code.{Code}
 use Rattle.code.specs.declared.code.Code.the-variants as code
-use Rattle.code.specs.declared.control.CodeField.{CodeField}
-use Rattle.code.specs.declared.control.CodeField.the-variants as field
 use Rattle.code.specs.declared.control.ControlCode.{ControlCode}
 use Rattle.code.specs.declared.pair.Pair.{Pair}
 use Rattle.agreement.specs.FrameRate.{SetBy, Settled}
+use Rattle.receiver.proofs.Copies.{field-again}
 use Rattle.receiver.specs.Reading.{after, afterReadingOnce}
-use Rattle.receiver.specs.Receiver.{acts, afterReading, fieldAfter, fresh, heardCodes, heardText, isLast, state, step}
+use Rattle.receiver.specs.Receiver.{acts, afterReading, fresh, heardCodes, heardText, isLast, state, step}
 use Rattle.receiver.specs.declared.state.Cea608State.{Cea608State}
-use Rattle.receiver.specs.declared.state.LastField.{LastField}
 use Rattle.receiver.specs.declared.state.LastPair.the-variants as last
-
--- a command that acts again sets the same field
-field-again : (c : CodeField) (before : LastField) → fieldAfter c (fieldAfter c before) ≡ fieldAfter c before
-field-again (field.Of x) before = refl
-field-again field.Absent before = refl
 
 module _ (s : Cea608State) (p : Pair) where
   -- by what the pair is read as

@@ -32,7 +32,7 @@ pub last-is-last : (p : Pair) → isLast p (last.Was p) ≡ true
 last-is-last p = rw (eq-eqb (p .0) (p .0) refl, eq-eqb (p .1) (p .1) refl)
 
 -- a command that acts again sets no other field
-field-again : (f : CodeField) (before : LastField) → fieldAfter f (fieldAfter f before) ≡ fieldAfter f before
+pub field-again : (f : CodeField) (before : LastField) → fieldAfter f (fieldAfter f before) ≡ fieldAfter f before
 field-again (field.Of x) before = refl
 field-again field.Absent before = refl
 

@@ -32,13 +32,6 @@ events (answer none ∷ os) = events os
 events (answer (some e) ∷ os) = e ∷ events os
 events (refused n ∷ os) = events os
 
--- what was reported, events and refusals, in order
-abbrev pub said : List (Outcome (Option Cea608)) → List (Outcome (Option Cea608))
-said [] = []
-said (answer none ∷ os) = said os
-said (answer (some e) ∷ os) = answer (some e) ∷ said os
-said (refused n ∷ os) = refused n ∷ said os
-
 -- each pair read once: every command acts
 abbrev pub onceCodes : Cea608State → Pair → Code → Code → Stepped
 onceCodes s p (code.Control c) y = acts s p c
