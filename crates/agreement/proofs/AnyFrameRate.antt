@@ -12,9 +12,9 @@ use Rattle.code.specs.Characters.{standard}
 use Rattle.code.specs.Letter.{letterAt}
 use Rattle.code.specs.Outcome.{Outcome, answer, refused}
 use Rattle.code.specs.Pair.{samePair}
-use Rattle.code.specs.Read.{readPair}
+use Rattle.code.specs.Read.{commandOf, meaning, readPair}
 use Rattle.code.specs.Pair.{pair}
-use Rattle.code.specs.Write.{inDomain, writeCode}
+use Rattle.code.specs.Write.{controlBytes, inDomain, onLine, writeCode}
 use Rattle.code.specs.declared.code.Code.{Code}
 use Rattle.code.specs.declared.code.Code.the-variants as code
 use Rattle.code.specs.declared.control.Command.the-variants.{CarriageReturn}
@@ -26,7 +26,7 @@ use Rattle.queue.specs.Queueable.{queueable}
 use Rattle.queue.specs.Ring.{popRing, pushRing}
 use Rattle.queue.specs.Ring as ring
 use Rattle.receiver.specs.Reading.{afterOnce, afterReadingOnce, answers, events, once, onceCodes, readOnce}
-use Rattle.receiver.specs.Receiver.{Stepped, fieldAfter, fresh, heardText, state, textFor}
+use Rattle.receiver.specs.Receiver.{fieldAfter, fresh, heardText, state, step, Stepped, textFor}
 use Rattle.receiver.specs.declared.state.Cea608State.{Cea608State}
 use Rattle.receiver.specs.declared.state.LastChannel.{LastChannel}
 use Rattle.receiver.specs.declared.state.LastPair.the-variants as last
@@ -46,6 +46,8 @@ use Rattle.agreement.specs.AnyFrameRate.{AnyFrameRateLaw, words}
 use Rattle.agreement.specs.Doubled.{doubled}
 use Rattle.agreement.specs.OneByOne.{AllOdd, IsOdd}
 use Rattle.agreement.specs.OneByOne as one
+use Rattle.receiver.specs.Heard.{eventOf, textEvent}
+use Rattle.code.specs.Code.{charOf}
 use Rattle.agreement.specs.Pairs.{carriageReturn, hi, padding}
 
 -- read once, a pair gives the same from states of one channel and field, and leaves such states
@@ -70,6 +72,7 @@ module _ (s t : Cea608State) (p : Pair) (same : Same s t) where
   same-reading (refused n) = (refl, same)
 
   same-once : SameSteps (once s p) (once t p)
+  unfolding once
   same-once = same-reading (readPair (p .0) (p .1))
 
 -- read once, two streams give the same events, and the same channel and field at the end
@@ -158,7 +161,7 @@ abbrev paddedCaption : List Pair
 paddedCaption = carriageReturn ∷ padding ∷ hi ∷ []
 
 pub the-same-words : words paddedCaption ≡ words (queuePairs caption freshSender)
-unfolding ones onesIn writeCode inDomain queueable admit pairOf codeOf pop pushRing popRing ring.wellFormed wellFormed pushSender send sendSender drainSender
+unfolding ones onesIn writeCode inDomain queueable admit pairOf codeOf pop pushRing popRing ring.wellFormed wellFormed pushSender send sendSender drainSender onLine controlBytes meaning
 the-same-words = refl
 
 pub padding-after-both-copies : doubled paddedCaption ≡ carriageReturn ∷ carriageReturn ∷ padding ∷ hi ∷ []
@@ -176,7 +179,7 @@ one-copy-corrupted-is-allowed =
     (one.arrives (one.is-spoiled refl refl refl (one.arrives (one.arrives one.ends))))
 
 pub one-copy-corrupted-is-decoded : events (answers fresh oneCopyCorrupted) ≡ returnEvent ∷ hiEvent ∷ []
-unfolding readPair ones onesIn standard
+unfolding readPair ones onesIn standard step eventOf textEvent charOf meaning commandOf
 one-copy-corrupted-is-decoded = refl
 
 pub one-copy-corrupted-agrees : Agreement (queuePairs caption freshSender) (doubled paddedCaption) oneCopyCorrupted

@@ -70,6 +70,7 @@ module _ (p : Pair) (l m : LastPair) (ch : LastChannel) (f : LastField) where
   codes-alike (code.Unknown b) y e one two = refl
 
   others-alike : isOddPair p ≡ true → Other p l → Other p m → step (state l ch f) p ≡ step (state m ch f) p
+  unfolding step
   others-alike odd one two =
       let e = odd-is-read (p .0) (p .1) odd in
       ap (afterReading (state l ch f) p) e

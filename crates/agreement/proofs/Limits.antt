@@ -11,9 +11,9 @@ use lib.ListN.{length, replicate}
 use Rattle.code.specs.Channel.{channelOne, fieldOne}
 use Rattle.code.specs.Characters.{standard}
 use Rattle.code.specs.Letter.{letterAt}
-use Rattle.code.specs.Read.{readPair}
+use Rattle.code.specs.Read.{commandOf, meaning, readPair}
 use Rattle.code.specs.Pair.{pair}
-use Rattle.code.specs.Write.{inDomain, writeCode}
+use Rattle.code.specs.Write.{controlBytes, inDomain, onLine, writeCode}
 use Rattle.code.specs.declared.character.Character.the-variants as character
 use Rattle.code.specs.declared.code.Code.{Code}
 use Rattle.code.specs.declared.code.Code.the-variants as code
@@ -30,8 +30,8 @@ use Rattle.queue.specs.Queue.{admit, pairOf, pop}
 use Rattle.queue.specs.Queueable.{queueable}
 use Rattle.queue.specs.Ring.{popRing, pushRing}
 use Rattle.queue.specs.Ring as ring
-use Rattle.receiver.specs.Reading.{answers, events, readOnce}
-use Rattle.receiver.specs.Receiver.{fresh}
+use Rattle.receiver.specs.Reading.{answers, events, once, readOnce}
+use Rattle.receiver.specs.Receiver.{fresh, step}
 use Rattle.agreement.proofs.OneByOne.{one-by-one-is-a-line}
 use Rattle.agreement.specs.Agreement.{Agreement, Carried, EndsIdle, Line, isRefusal, queuePairs, sentBy}
 use Rattle.agreement.specs.Agreement as agreed
@@ -41,6 +41,9 @@ use Rattle.agreement.specs.QueuedCommands.{packed}
 use Rattle.sender.specs.Calls.{Call, pushing, sending, draining, asking, noReset}
 use Rattle.sender.specs.Drain.{drainSender}
 use Rattle.sender.specs.Sender.{freshSender, idleSender, pushSender, sendSender, wellFormed}
+use Rattle.receiver.specs.Heard.{eventOf, textEvent}
+use Rattle.event.specs.Mode.{modeOf}
+use Rattle.code.specs.Code.{charOf}
 use Rattle.sender.specs.Sending.{send}
 
 abbrev pub command : Command → Code
@@ -65,16 +68,16 @@ abbrev line : List Pair
 line = rollUp2 ∷ rollUp2 ∷ carriageReturn ∷ carriageReturn ∷ hi ∷ []
 
 pub what-is-sent : (sentBy programme freshSender ≡ line) × (queuePairs programme freshSender ≡ rollUp2 ∷ carriageReturn ∷ hi ∷ []) × (noReset programme ≡ true) × EndsIdle programme
-unfolding ones onesIn writeCode inDomain queueable admit pairOf codeOf pop pushRing popRing ring.wellFormed wellFormed pushSender send sendSender drainSender idleSender
+unfolding ones onesIn writeCode inDomain queueable admit pairOf codeOf pop pushRing popRing ring.wellFormed wellFormed pushSender send sendSender drainSender idleSender onLine controlBytes meaning
 what-is-sent = (refl, refl, refl, refl)
 
 -- the codes of each pair
 pub what-it-is-made-of : packed programme freshSender ≡ record { pair = rollUp2; codes = command RollUp2 ∷ [] } ∷ record { pair = carriageReturn; codes = command CarriageReturn ∷ [] } ∷ record { pair = hi; codes = code.Letter (letterAt 0x28) ∷ code.Letter (letterAt 0x49) ∷ [] } ∷ []
-unfolding ones onesIn writeCode inDomain queueable admit pairOf codeOf pop pushRing popRing ring.wellFormed wellFormed pushSender send sendSender drainSender idleSender
+unfolding ones onesIn writeCode inDomain queueable admit pairOf codeOf pop pushRing popRing ring.wellFormed wellFormed pushSender send sendSender drainSender idleSender onLine controlBytes meaning
 what-it-is-made-of = refl
 
 pub what-is-meant : events (readOnce fresh (rollUp2 ∷ carriageReturn ∷ hi ∷ [])) ≡ modeEvent ∷ returnEvent ∷ hiEvent ∷ []
-unfolding readPair ones onesIn standard
+unfolding readPair ones onesIn standard once eventOf textEvent modeOf charOf meaning commandOf
 what-is-meant = refl
 
 -- a copy of each command corrupted, the first of the one and the second of the other: all is decoded
@@ -88,11 +91,11 @@ one-corrupted-each-is-allowed =
     (one.is-spoiled refl refl refl (one.arrives (one.arrives (one.is-spoiled refl refl refl (one.arrives one.ends)))))
 
 pub one-corrupted-each-is-decoded : events (answers fresh oneCorruptedEach) ≡ modeEvent ∷ returnEvent ∷ hiEvent ∷ []
-unfolding readPair ones onesIn standard
+unfolding readPair ones onesIn standard step eventOf textEvent modeOf charOf meaning commandOf
 one-corrupted-each-is-decoded = refl
 
 pub one-corrupted-each-is-refused : map isRefusal (answers fresh oneCorruptedEach) ≡ true ∷ false ∷ false ∷ true ∷ false ∷ []
-unfolding readPair ones onesIn standard
+unfolding readPair ones onesIn standard step
 one-corrupted-each-is-refused = refl
 
 -- both copies of the carriage return corrupted: the line may corrupt one, not both, and the window does not scroll
@@ -105,7 +108,7 @@ two-corrupted-are-carried =
     agreed.arrives (agreed.arrives (agreed.is-spoiled refl refl (agreed.is-spoiled refl refl (agreed.arrives agreed.ends))))
 
 pub two-corrupted-lose-a-command : events (answers fresh twoCorrupted) ≡ modeEvent ∷ hiEvent ∷ []
-unfolding readPair ones onesIn standard
+unfolding readPair ones onesIn standard step eventOf textEvent modeOf charOf meaning commandOf
 two-corrupted-lose-a-command = refl
 
 -- the text corrupted, and no command: its words are lost
@@ -113,7 +116,7 @@ abbrev textCorrupted : List Pair
 textCorrupted = rollUp2 ∷ rollUp2 ∷ carriageReturn ∷ carriageReturn ∷ pair 0x48 0xE9 ∷ []
 
 pub corrupted-text-loses-words : events (answers fresh textCorrupted) ≡ modeEvent ∷ returnEvent ∷ []
-unfolding readPair ones onesIn
+unfolding readPair ones onesIn step eventOf modeOf meaning commandOf
 corrupted-text-loses-words = refl
 
 -- so the agreement fails for both: two events are decoded, and three were meant
@@ -143,11 +146,11 @@ twoReturns =
     pushing (command CarriageReturn) ∷ pushing (command CarriageReturn) ∷ sending ∷ sending ∷ sending ∷ sending ∷ []
 
 pub a-stretch-of-four : (sentBy twoReturns freshSender ≡ carriageReturn ∷ carriageReturn ∷ carriageReturn ∷ carriageReturn ∷ []) × (queuePairs twoReturns freshSender ≡ carriageReturn ∷ carriageReturn ∷ [])
-unfolding ones onesIn writeCode inDomain queueable admit pairOf codeOf pop pushRing popRing ring.wellFormed wellFormed pushSender send sendSender
+unfolding ones onesIn writeCode inDomain queueable admit pairOf codeOf pop pushRing popRing ring.wellFormed wellFormed pushSender send sendSender onLine controlBytes meaning
 a-stretch-of-four = (refl, refl)
 
 pub two-corrupted-of-four-lose-a-command :
     (events (readOnce fresh (carriageReturn ∷ carriageReturn ∷ [])) ≡ returnEvent ∷ returnEvent ∷ [])
     × (events (answers fresh (carriageReturn ∷ pair 0x14 0xAD ∷ pair 0x14 0xAD ∷ carriageReturn ∷ [])) ≡ returnEvent ∷ [])
-unfolding readPair ones onesIn
+unfolding readPair ones onesIn step once eventOf meaning commandOf
 two-corrupted-of-four-lose-a-command = (refl, refl)

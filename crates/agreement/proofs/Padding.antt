@@ -11,9 +11,12 @@ use Rattle.receiver.specs.Receiver.{afterReading, state, step, textFor}
 use Rattle.receiver.specs.declared.state.Cea608State.{Cea608State}
 use Rattle.receiver.specs.declared.state.LastChannel.{LastChannel}
 use Rattle.receiver.specs.declared.state.LastChannel.the-variants as channel
+use Rattle.receiver.specs.Heard.{textEvent}
+use Rattle.code.specs.Code.{charOf}
 use Rattle.receiver.specs.declared.state.LastPair.the-variants as last
 
 no-text : (ch : LastChannel) → textFor ch code.Nul code.Nul ≡ none
+unfolding textEvent charOf
 no-text channel.Absent = refl
 no-text (channel.Known ch) = refl
 
@@ -21,7 +24,9 @@ abbrev pub afterPadding : Cea608State → Cea608State
 afterPadding s = state (last.Was padding) (s .«last_channel») (s .«last_received_field»)
 
 pub padding-step : (s : Cea608State) → step s padding ≡ (answer none, afterPadding s)
+unfolding step
 padding-step s = ap (afterReading s padding) padding-read ∙ rw (no-text (s .«last_channel»))
 
 pub padding-once : (s : Cea608State) → once s padding ≡ (answer none, afterPadding s)
+unfolding once
 padding-once s = ap (afterReadingOnce s padding) padding-read ∙ rw (no-text (s .«last_channel»))

@@ -13,7 +13,7 @@ use Rattle.code.specs.declared.control.ControlCode.{ControlCode}
 use Rattle.code.specs.declared.pair.Pair.{Pair}
 use Rattle.agreement.specs.FrameRate.{SetBy, Settled}
 use Rattle.receiver.proofs.Copies.{field-again}
-use Rattle.receiver.specs.Reading.{after, afterReadingOnce}
+use Rattle.receiver.specs.Reading.{after, afterReadingOnce, once}
 use Rattle.receiver.specs.Receiver.{acts, afterReading, fresh, heardCodes, heardText, isLast, state, step}
 use Rattle.receiver.specs.declared.state.Cea608State.{Cea608State}
 use Rattle.receiver.specs.declared.state.LastPair.the-variants as last
@@ -21,6 +21,7 @@ use Rattle.receiver.specs.declared.state.LastPair.the-variants as last
 module _ (s : Cea608State) (p : Pair) where
   -- by what the pair is read as
   set-by : (t : Cea608State) (o : Outcome (Code × Code)) → readPair (p .0) (p .1) ≡ o → afterReadingOnce t p o .1 .«last_channel» ≡ t .«last_channel» → afterReadingOnce t p o .1 .«last_received_field» ≡ t .«last_received_field» → SetBy (last.Was p) t
+  unfolding once
   set-by t o e ch f = (
     ap (λ (x : Outcome (Code × Code)). afterReadingOnce t p x .1 .«last_channel») e ∙ ch,
     ap (λ (x : Outcome (Code × Code)). afterReadingOnce t p x .1 .«last_received_field») e ∙ f,
@@ -42,6 +43,7 @@ module _ (s : Cea608State) (p : Pair) where
   settled-reading (refused n) e settled = settled
 
   settled-step : Settled s → Settled (step s p .1)
+  unfolding step
   settled-step = settled-reading (readPair (p .0) (p .1)) refl
 
 pub stays-settled : (s : Cea608State) (ps : List Pair) → Settled s → Settled (after s ps)

@@ -3,14 +3,18 @@
 use mathlib.Core.List.{map}
 use mathlib.Core.Path.{_≡_, refl}
 use lib.Count.{ones, onesIn}
-use Rattle.code.specs.Read.{readPair}
-use Rattle.code.specs.Write.{inDomain, writeCode}
+use Rattle.code.specs.Read.{commandOf, meaning, readPair}
+use Rattle.code.specs.Write.{controlBytes, inDomain, onLine, writeCode}
 use Rattle.queue.specs.Number.{codeOf}
 use Rattle.queue.specs.Queue.{admit, pairOf, pop}
 use Rattle.queue.specs.Queueable.{queueable}
 use Rattle.queue.specs.Ring.{popRing, pushRing, wellFormed}
+use Rattle.receiver.specs.Receiver.{step}
+use Rattle.receiver.specs.Heard.{eventOf, textEvent}
+use Rattle.event.specs.Mode.{modeOf}
+use Rattle.code.specs.Code.{charOf}
 use Rattle.agreement.specs.TriedByHand.{pairsTried, try, whatTheyGive}
 
 pub tried-by-hand : map try pairsTried ≡ whatTheyGive
-unfolding readPair ones onesIn writeCode inDomain queueable admit pairOf codeOf pop pushRing popRing wellFormed
+unfolding readPair ones onesIn writeCode inDomain queueable admit pairOf codeOf pop pushRing popRing wellFormed step eventOf textEvent modeOf charOf onLine controlBytes meaning commandOf
 tried-by-hand = refl

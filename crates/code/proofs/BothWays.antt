@@ -39,13 +39,13 @@ is-that-point c none e = absurd (true≢false (sym e))
 is-that-point c (some d) e = ap some (sym (eqb-true c d e))
 
 letter-has : (c i : ℕ) → placeOf c standard ≡ some i → charOf (code.Letter (letterAt i)) ≡ some c
-unfolding standard
+unfolding standard charOf
 letter-has c i e =
     ap (λ (n : ℕ). getD standard n none) (letter-place i (first-inside (isPoint c) standard i e))
     ∙ is-that-point c (getD standard i none) (first-passes (isPoint c) standard none i e)
 
 symbol-has : (c i : ℕ) (ch : Channel) → placeOf c symbols ≡ some i → charOf (symbolAs Absent ch (symbolAt i)) ≡ some c
-unfolding symbols
+unfolding symbols charOf
 symbol-has c i ch e =
     ap (λ (n : ℕ). getD symbols n none) (symbol-place i (first-inside (isPoint c) symbols i e))
     ∙ is-that-point c (getD symbols i none) (first-passes (isPoint c) symbols none i e)
@@ -64,6 +64,7 @@ a-characters-code-has-it c ch x e = by-letter c ch x (placeOf c standard) refl e
 
 -- every letter has a character
 pub a-letter-has-a-character : (l : Letter) → (c : ℕ) × (charOf (code.Letter l) ≡ some c)
+unfolding charOf
 a-letter-has-a-character l = (getD allPoints (letterPlace l) 0, sym (letter-point (letterPlace l) (letter-small l)))
 
 -- and what a character's code is, if it is no letter: a symbol with no field and the given channel
@@ -81,6 +82,7 @@ a-characters-control-is-a-symbol c ch k e = by-place c ch k (placeOf c standard)
 
 -- the place of a letter's character is the letter's own
 letter-at-its-place : (l : Letter) (c : ℕ) → charOf (code.Letter l) ≡ some c → placeOf c standard ≡ some (letterPlace l)
+unfolding charOf
 letter-at-its-place l c e = sym (ap (firstIn standard) e) ∙ letter-once (letterPlace l) (letter-small l)
 
 pub a-letter-is-its-characters-code : (l : Letter) (c : ℕ) (ch : Channel) → charOf (code.Letter l) ≡ some c → fromChar c ch ≡ answer (code.Letter l)
@@ -94,7 +96,7 @@ symbol-is-no-letter : (s : Symbol) (c : ℕ) → getD symbols (symbolPlace s) no
 symbol-is-no-letter s c e = sym (ap (firstIn standard) e) ∙ symbol-apart (symbolPlace s) (symbol-small s)
 
 pub a-symbol-is-its-characters-code : (f : CodeField) (d : Channel) (s : Symbol) (c : ℕ) (ch : Channel) → charOf (symbolAs f d s) ≡ some c → fromChar c ch ≡ answer (symbolAs Absent ch s)
-unfolding fromChar
+unfolding fromChar charOf
 a-symbol-is-its-characters-code f d s c ch e =
     ap (λ (o : Option ℕ). letterCode o (symbolCode ch (placeOf c symbols))) (symbol-is-no-letter s c e)
     ∙ ap (symbolCode ch) (symbol-once (symbolPlace s) c (symbol-small s) e)

@@ -49,6 +49,7 @@ field-says true ch a is14 less = channel-says (ch .0) 0x15 (lit< tt) ∙ ap isCo
 field-says false ch a is14 less = channel-says (ch .0) a less
 
 line-says : (f : CodeField) (ch : Channel) (p : Pair) → p .0 < 128 → isCommand (stripped (onLine f ch p .0)) ≡ isCommand (p .0)
+unfolding onLine
 line-says f ch p less =
     let two = isFieldTwo f in
     let at14 = eqb (p .0) 0x14 in
@@ -96,6 +97,7 @@ unknown-goes-out f ch a b true e = line-says f ch (pair a b) (ltb-true a 0x80 (b
 unknown-goes-out f ch a b false e = tt
 
 control-says : (f : CodeField) (ch : Channel) (c : Control) → Says (isCommandControl c) (asCommand f ch (controlBytes c))
+unfolding controlBytes
 control-says f ch (control.MidRow m) = goes-out f ch (midRowBytes m) refl
 control-says f ch (control.Symbol s) = goes-out f ch (symbolBytes s) (symbol-says s)
 control-says f ch (control.Command c) = goes-out f ch (pair 0x14 (0x20 + commandNumber c)) refl

@@ -46,6 +46,7 @@ abbrev pub decided : ℕ → ℕ → Option Control
 decided p b = cond (leb 0x40 b) (decidedRow p b) (decidedOther p b)
 
 pub decided-is : (p b : ℕ) → 16 ≤ p → p < 24 → b < 128 → decided p b ≡ meaning p b
+unfolding meaning
 decided-is p b from below less = agree-grid decided meaning 16 8 128 refl p b from below less
 
 -- below 40 there is no preamble
@@ -89,6 +90,7 @@ said-is a b none = refl
 said-is a b (some c) = refl
 
 pub parsed : (a b p : ℕ) (ch : Channel) (f : CodeField) (r : Meaning) → 16 ≤ a → a < 32 → ch ≡ channelOf a → f ≡ fieldOf (a % 8 + 16) b → p ≡ withoutField (a % 8 + 16) b → r ≡ meaningOf (meaning p b) → _≡_ {A = ControlCode} (record { field = f; channel = ch; control = meantOr a b r }) (commandOf a b)
+unfolding commandOf
 parsed a b p ch f r from below of-channel field prefix found =
     simp (found, prefix, field, of-channel, said-is, without-channel a from below)
 

@@ -57,6 +57,7 @@ kind-again (kind.Color c) u = color-again c u
 kind-again kind.Italics u = refl
 
 mid-row-at : (n : ℕ) (u : Bool) → n < 8 → meaning 0x11 (0x20 + 2 * n + bit u) ≡ some (control.MidRow (midRowAt n u))
+unfolding meaning
 mid-row-at n true less =
     agree (λ (x : ℕ). meaning 0x11 (0x20 + 2 * x + 1)) (λ (x : ℕ). some (control.MidRow (midRowAt x true))) 8 refl n less
 mid-row-at n false less =
@@ -76,6 +77,7 @@ mid-row-pair m = mid-row-fits (midRowNumber m) (m .underline) (kind-small (m .co
 
 -- symbols
 symbol-at : (r c : ℕ) → r < 5 → c < 16 → meant (plus (symbolBase (symbolRowAt r)) c) ≡ some (control.Symbol (record { row = symbolRowAt r; column = columnAt c }))
+unfolding meaning
 symbol-at r c inside less =
     agree-grid (λ (x y : ℕ). meant (plus (symbolBase (symbolRowAt x)) y)) (λ (x y : ℕ). some (control.Symbol (record { row = symbolRowAt x; column = columnAt y }))) 0 5 16 refl
     r
@@ -103,6 +105,7 @@ symbol-pair s =
 
 -- commands and tabs
 pub command-meant : (c : Command) → meaning 0x14 (0x20 + commandNumber c) ≡ some (control.Command c)
+unfolding meaning
 command-meant c =
     agree (λ (x : ℕ). meaning 0x14 (0x20 + x)) (λ (x : ℕ). some (control.Command (commandAt x))) 16 refl (commandNumber c) (command-back c .0)
     ∙ ap (λ (x : Command). some (control.Command x)) (command-back c .1)
@@ -116,6 +119,7 @@ tab-pair tab.TabOffset2 = refl
 tab-pair tab.TabOffset3 = refl
 
 pub tab-meant : (t : Tab) → meaning 0x17 (0x20 + tabNumber t) ≡ some (control.Tab t)
+unfolding meaning
 tab-meant tab.TabOffset1 = refl
 tab-meant tab.TabOffset2 = refl
 tab-meant tab.TabOffset3 = refl
@@ -125,6 +129,7 @@ abbrev preambleIn : ℕ → ℕ → Bool → Control
 preambleIn row style u = control.Preamble (record { row = row; underline = u; ty = styleAt style })
 
 preamble-at : (row n : ℕ) (u : Bool) → row < 15 → n < 16 → meant (plus (rowPrefix row) (2 * n + bit u)) ≡ some (preambleIn row n u)
+unfolding meaning
 preamble-at row n true inside less =
     agree-grid (λ (x y : ℕ). meant (plus (rowPrefix x) (2 * y + 1))) (λ (x y : ℕ). some (preambleIn x y true)) 0 15 16 refl row n zero-le inside less
 preamble-at row n false inside less =

@@ -62,6 +62,7 @@ abbrev readAs : CodeField → ℕ → ℕ → Option Control
 readAs f a b = meaning (withoutField (withField f (pair a b)) b) b
 
 field-back : (f : CodeField) (a b : ℕ) → 16 ≤ a → a < 24 → b < 128 → ifMeant (meaning a b) (readAs f a b) ≡ meaning a b
+unfolding meaning
 field-back Absent a b from below less =
     agree-grid (λ (x y : ℕ). ifMeant (meaning x y) (readAs Absent x y)) meaning 16 8 128 refl a b from below less
 field-back (Of f) a b from below less = named (f .0)
@@ -108,11 +109,13 @@ module _ (f : CodeField) (ch : Channel) (a b : ℕ) (c : Control) (from : 16 ≤
       ∙ means
 
   pub command-back : commandOf sent b ≡ record { field = fieldOf (withoutChannel sent) b; channel = ch; control = c }
+  unfolding commandOf
   command-back =
       ap₂ {C = ControlCode} (λ (d : Channel) (m : Option Control). record { field = fieldOf (withoutChannel sent) b; channel = d; control = orUnknown sent b m })
       (channel-kept (ch .0) named (inside .0) (inside .1)) means-again
 
   pub bytes-read-back : readPair (onLine f ch (pair a b) .0) (onLine f ch (pair a b) .1) ≡ answer (code.Control (record { field = fieldOf (withoutChannel sent) b; channel = ch; control = c }), code.Nul)
+  unfolding onLine
   bytes-read-back =
       let known = channel-between (ch .0) named (inside .0) (inside .1) in
       let first : stripped (withParity sent) ≡ sent = data-kept sent ∙ known .1 in
@@ -123,6 +126,7 @@ module _ (f : CodeField) (ch : Channel) (a b : ℕ) (c : Control) (from : 16 ≤
 
 -- from 18 on no first byte, channel aside, means anything
 none-above : (a b : ℕ) → 24 ≤ a → a < 32 → b < 128 → meaning a b ≡ none
+unfolding meaning
 none-above a b from below less = agree-grid meaning (λ (x y : ℕ). none) 24 8 128 refl a b from below less
 
 first-below : (a b : ℕ) (c : Control) (t : Bool) → ltb a 24 ≡ t → a < 32 → b < 128 → meaning a b ≡ some c → a < 24
@@ -154,19 +158,24 @@ by-bytes f ch c p bytes fits means =
     }
 
 pub mid-row-reads-back : (f : CodeField) (ch : Channel) (m : MidRow) → ReadsBack f ch (control.MidRow m)
+unfolding controlBytes
 mid-row-reads-back f ch m = by-bytes f ch (control.MidRow m) (midRowBytes m) refl (mid-row-pair m) (mid-row-meant m)
 
 pub symbol-reads-back : (f : CodeField) (ch : Channel) (s : Symbol) → ReadsBack f ch (control.Symbol s)
+unfolding controlBytes
 symbol-reads-back f ch s = by-bytes f ch (control.Symbol s) (symbolBytes s) refl (symbol-pair s) (symbol-meant s)
 
 pub command-reads-back : (f : CodeField) (ch : Channel) (c : Command) → ReadsBack f ch (control.Command c)
+unfolding controlBytes
 command-reads-back f ch c =
     by-bytes f ch (control.Command c) (pair 0x14 (0x20 + commandNumber c)) refl (command-pair c) (command-meant c)
 
 pub tab-reads-back : (f : CodeField) (ch : Channel) (t : Tab) → ReadsBack f ch (control.Tab t)
+unfolding controlBytes
 tab-reads-back f ch t = by-bytes f ch (control.Tab t) (pair 0x17 (0x20 + tabNumber t)) refl (tab-pair t) (tab-meant t)
 
 pub preamble-reads-back : (f : CodeField) (ch : Channel) (p : PreambleAddressCode) → p .row < 15 → ReadsBack f ch (control.Preamble p)
+unfolding controlBytes
 preamble-reads-back f ch p inside =
     by-bytes f ch (control.Preamble p) (preambleBytes p) (rw (le-leb (p .row) 14 (omega arith)) refl) (preamble-pair p inside)
     (preamble-meant p inside)

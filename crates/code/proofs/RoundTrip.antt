@@ -12,9 +12,9 @@ use Rattle.code.proofs.Agree.{agree, agree-grid}
 use Rattle.code.proofs.OneAnswer.{clash}
 use Rattle.code.specs.Outcome.{Outcome, answer, refused}
 use Rattle.code.specs.Parity.{isOdd, stripped, withParity}
-use Rattle.code.specs.Read.{codesOf, commandOf, isCommand, readPair, single}
+use Rattle.code.specs.Read.{codesOf, commandOf, isCommand, meaning, readPair, single}
 use Rattle.code.specs.Pair.{pair}
-use Rattle.code.specs.Write.{asCommand, asSingle, controlBytes, preambleBytes, together, writeCode, writeTwo}
+use Rattle.code.specs.Write.{asCommand, asSingle, controlBytes, onLine, preambleBytes, together, writeCode, writeTwo}
 use Rattle.code.specs.declared.channel.Channel.{Channel}
 use Rattle.code.specs.declared.code.Code.{Code}
 use Rattle.code.specs.declared.code.Code.the-variants as code
@@ -41,7 +41,7 @@ unfolding ones onesIn writeCode
 single-again b less = agree (λ (x : ℕ). writeCode (single x)) asSingle 128 refl b less
 
 pub command-again : (a b : ℕ) → 16 ≤ a → a < 32 → b < 128 → writeCode (code.Control (commandOf a b)) ≡ answer (pair (withParity a) (withParity b), 2)
-unfolding ones onesIn writeCode
+unfolding ones onesIn writeCode onLine controlBytes meaning commandOf
 command-again a b from below less =
     agree-grid (λ (x y : ℕ). writeCode (code.Control (commandOf x y))) (λ (x y : ℕ). answer (pair (withParity x) (withParity y), 2)) 16 16 128 refl
     a
@@ -95,7 +95,7 @@ row-of-answer row p q true e is = omega (arith, leb-true row 14 e)
 row-of-answer row p q false e is = absurd (clash (sym is))
 
 pub row-that-was-read : (a b : ℕ) (p : PreambleAddressCode) → isCommand (stripped a) ≡ true → commandOf (stripped a) (stripped b) .control ≡ control.Preamble p → p .row < 15
-unfolding writeCode
+unfolding writeCode controlBytes
 row-that-was-read a b p is read =
     let range = command-range (stripped a) is in
     let c = commandOf (stripped a) (stripped b) in

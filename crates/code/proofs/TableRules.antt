@@ -43,12 +43,12 @@ entry-written i less = agree (λ (x : ℕ). writeCode (codeAt x)) (λ (x : ℕ).
 
 -- the control table, both ways
 pub control-read : (i : ℕ) → i < 99 → meaning (entryBytes i / 256) (entryBytes i % 256) ≡ some (controlAt i)
-unfolding controlEntries
+unfolding controlEntries meaning
 control-read i less =
     agree (λ (x : ℕ). meaning (entryBytes x / 256) (entryBytes x % 256)) (λ (x : ℕ). some (controlAt x)) 99 refl i less
 
 pub control-written : (i : ℕ) → i < 99 → controlBytes (controlAt i) ≡ answer (twoBytes (entryBytes i))
-unfolding controlEntries
+unfolding controlEntries controlBytes
 control-written i less =
     agree (λ (x : ℕ). controlBytes (controlAt x)) (λ (x : ℕ). answer (twoBytes (entryBytes x))) 99 refl i less
 

@@ -15,7 +15,7 @@ use Rattle.code.proofs.OneAnswer.{clash, same}
 use Rattle.code.specs.Letter.{letterAt}
 use Rattle.code.specs.Pair.{pair}
 use Rattle.code.specs.Read.{codesOf, commandOf, isCommand, readPair, single}
-use Rattle.code.specs.Write.{asCommand, asSingle, controlBytes, controlInDomain, inDomain, preambleBytes, writeCode}
+use Rattle.code.specs.Write.{asCommand, asSingle, controlBytes, controlInDomain, inDomain, onLine, preambleBytes, writeCode}
 use Rattle.code.specs.declared.channel.Channel.{Channel}
 use Rattle.code.specs.declared.code.Code.{Code}
 use Rattle.code.specs.declared.code.Code.the-variants as code
@@ -58,6 +58,7 @@ Good n (answer x) = SentPair (x .0) × (x .1 ≡ n)
 Good n (refused k) = Unit
 
 good-command : (f : CodeField) (c : Channel) (o : Outcome Pair) → Good 2 (asCommand f c o)
+unfolding onLine
 good-command f c (answer p) = (record { first = with-parity _; second = with-parity _ }, refl)
 good-command f c (refused n) = tt
 
@@ -111,6 +112,7 @@ bytes-settled f c true p n = refl
 bytes-settled f c false p n = refl
 
 control-settled : (f : CodeField) (ch : Channel) (c : Control) → controlInDomain c ≡ settled (asCommand f ch (controlBytes c))
+unfolding controlBytes
 control-settled f ch (control.MidRow m) = refl
 control-settled f ch (control.Symbol s) = refl
 control-settled f ch (control.Command c) = refl

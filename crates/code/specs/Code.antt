@@ -60,7 +60,7 @@ controlChar (control.Tab t) = none
 controlChar (control.Preamble p) = none
 controlChar (control.Unknown a b) = none
 
-abbrev pub charOf : Code → Option ℕ
+unfoldable pub charOf : Code → Option ℕ
 charOf code.Nul = none
 charOf (code.Control c) = controlChar (c .control)
 charOf (code.Letter l) = getD standard (letterPlace l) none

@@ -70,7 +70,7 @@ abbrev pub symbolIn : SymbolRow → ℕ → Option Control
 symbolIn r b = some (control.Symbol (record { row = r; column = columnAt (b % 16) }))
 
 -- what a first byte, 10 to 17 with 15 already read as 14 where it names a field, and a second byte mean together
-abbrev pub meaning : ℕ → ℕ → Option Control
+unfoldable pub meaning : ℕ → ℕ → Option Control
 meaning p b =
     cond (eqb p 0x11 && within 0x20 0x2F b) (some (control.MidRow (midRowAt ((b - 0x20) / 2) (underlined b))))
     (cond (isInRow Special p b) (symbolIn Special b)
@@ -87,7 +87,7 @@ orUnknown a b none = control.Unknown a b
 orUnknown a b (some c) = c
 
 -- the control code of two stripped bytes
-abbrev pub commandOf : ℕ → ℕ → ControlCode
+unfoldable pub commandOf : ℕ → ℕ → ControlCode
 commandOf a b = record {
   field = fieldOf (withoutChannel a) b;
   channel = channelOf a;

@@ -57,7 +57,7 @@ abbrev pub ofSevenBits : {A : Type 0} → Bool → A → Outcome A
 ofSevenBits small x = cond small (answer x) (refused 2)
 
 -- the two bytes of a control, channel, field and parity aside
-abbrev pub controlBytes : Control → Outcome Pair
+unfoldable pub controlBytes : Control → Outcome Pair
 controlBytes (control.MidRow m) = answer (midRowBytes m)
 controlBytes (control.Symbol s) = answer (symbolBytes s)
 controlBytes (control.Command c) = answer (pair 0x14 (0x20 + commandNumber c))
@@ -80,7 +80,7 @@ withBit8 a = cond (eqb (a / 8 % 2) 1) a (a + 8)
 abbrev pub withChannel : Channel → ℕ → ℕ
 withChannel c a = cond (c .0) a (withBit8 a)
 
-abbrev pub onLine : CodeField → Channel → Pair → Pair
+unfoldable pub onLine : CodeField → Channel → Pair → Pair
 onLine f c p = pair (withParity (withChannel c (withField f p))) (withParity (p .1))
 
 -- a command fills the pair and has length 2

@@ -66,7 +66,7 @@ inOrder (refused n) second = no-character 1 n
 abbrev pub textCodes : Text → Turned
 textCodes t = inOrder (characterCode (t .char1) (t .channel)) (characterCode (t .char2) (t .channel))
 
-abbrev pub codesOf : Cea608 → Field → Turned
+unfoldable pub codesOf : Cea608 → Field → Turned
 codesOf (event.Text t) f = textCodes t
 codesOf (event.NewMode ch m) f = commandAlone f ch (commandOf m)
 codesOf (event.EraseDisplay ch) f = commandAlone f ch command.EraseDisplayedMemory

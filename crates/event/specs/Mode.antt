@@ -20,7 +20,7 @@ commandOf RollUp2 = command.RollUp2
 commandOf RollUp3 = command.RollUp3
 commandOf RollUp4 = command.RollUp4
 
-abbrev pub modeOf : Command → Option Mode
+unfoldable pub modeOf : Command → Option Mode
 modeOf command.ResumeCaptionLoading = some PopOn
 modeOf command.Backspace = none
 modeOf command.AlarmOff = none

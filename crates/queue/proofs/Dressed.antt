@@ -15,7 +15,7 @@ use Rattle.code.specs.Code.{byteLen}
 use Rattle.code.specs.Letter.{letterAt}
 use Rattle.code.specs.Outcome.{Outcome, answer, refused}
 use Rattle.code.specs.Pair.{pair}
-use Rattle.code.specs.Write.{inDomain, isCommandCode, isCommandControl, writeCode}
+use Rattle.code.specs.Write.{controlBytes, inDomain, isCommandCode, isCommandControl, onLine, writeCode}
 use Rattle.code.specs.declared.channel.Channel.{Channel}
 use Rattle.code.specs.declared.code.Code.{Code}
 use Rattle.code.specs.declared.code.Code.the-variants as code
@@ -138,7 +138,7 @@ abbrev goes-out : ℕ → List Reply
 goes-out a = accepted ∷ toPop (answer (pair a 0xC1)) ∷ []
 
 pub first-bytes-accepted : (alone channelOne 0x10 ≡ goes-out 0x10) × (alone channelOne 0x1F ≡ goes-out 0x1F) × (alone channelTwo 0x10 ≡ goes-out 0x98) × (alone channelTwo 0x1F ≡ goes-out 0x1F)
-unfolding ones onesIn writeCode inDomain queueable admit pairOf pop
+unfolding ones onesIn writeCode inDomain queueable admit pairOf pop onLine controlBytes
 first-bytes-accepted = (refl, refl, refl, refl)
 
 -- 2 comes before 18, and 18 before 7

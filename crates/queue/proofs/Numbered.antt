@@ -88,6 +88,7 @@ second-below : (n : ℕ) → secondIn n < 128
 second-below n = omega arith
 
 bytes-by : (t : Bool) (a b : ℕ) → 16 ≤ a → a < 32 → b < 128 → controlBytes (cond t (meantBy a b) (control.Unknown a b)) ≡ answer (pair a b)
+unfolding controlBytes meaning
 bytes-by true a b from below less =
     agree-grid (λ (x y : ℕ). controlBytes (meantBy x y)) (λ (x y : ℕ). answer (pair x y)) 16 16 128 refl a b from below less
 bytes-by false a b from below less = rw (lt-ltb a 0x80 (omega arith), lt-ltb b 0x80 less) refl
@@ -100,6 +101,7 @@ abbrev pub controlTested : Control → Outcome Unit
 controlTested c = unlessDressed (isDressedControl c) (controlInDomain c)
 
 control-by : (t : Bool) (a b : ℕ) → 16 ≤ a → a < 32 → b < 128 → controlTested (cond t (meantBy a b) (control.Unknown a b)) ≡ answer tt
+unfolding meaning
 control-by true a b from below less =
     agree-grid (λ (x y : ℕ). controlTested (meantBy x y)) (λ (x y : ℕ). answer tt) 16 16 128 refl a b from below less
 control-by false a b from below less =
@@ -164,6 +166,7 @@ abbrev pub wantsSpace : ℕ → Bool
 wantsSpace d = eqb d 0x0A || eqb d 0x12 || eqb d 0x13 || eqb d 0x1A || eqb d 0x1B
 
 space-told : (m : ℕ) → m < 0x1000 → controlNeedsBackspace (controlOf (m / 0x800) (16 + m / 128 % 16) (m % 128)) ≡ wantsSpace (m / 16)
+unfolding meaning
 space-told m less =
     agree (λ (x : ℕ). controlNeedsBackspace (controlOf (x / 0x800) (16 + x / 128 % 16) (x % 128))) (λ (x : ℕ). wantsSpace (x / 16)) 0x1000 refl m less
 
@@ -300,6 +303,7 @@ unknown-back f ch a b true false e first may = absurd (true≢false (sym may))
 unknown-back f ch a b false u e first may = absurd (true≢false (sym may))
 
 control-back : (f : CodeField) (ch : Channel) (c : Control) → isAnswer (controlTested c) ≡ true → codeOf (fieldNumber f + channelNumber ch + controlNumber c) ≡ code.Control (record { field = f; channel = ch; control = c })
+unfolding controlBytes
 control-back f ch (control.MidRow m) may = meant-back f ch (control.MidRow m) (midRowBytes m) (mid-row-pair m) (mid-row-meant m)
 control-back f ch (control.Symbol s) may = meant-back f ch (control.Symbol s) (symbolBytes s) (symbol-pair s) (symbol-meant s)
 control-back f ch (control.Command c) may = meant-back f ch (control.Command c) (pair 0x14 (0x20 + commandNumber c)) (command-pair c) (command-meant c)

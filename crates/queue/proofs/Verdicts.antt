@@ -13,7 +13,7 @@ use Rattle.code.specs.Letter.{letterPlace}
 use Rattle.code.specs.Outcome.{Outcome, answer, refused}
 use Rattle.code.specs.Read.{isCommand}
 use Rattle.code.specs.Pair.{pair}
-use Rattle.code.specs.Write.{preambleBytes, rowBytes, ofSevenBits}
+use Rattle.code.specs.Write.{controlBytes, ofSevenBits, preambleBytes, rowBytes}
 use Rattle.code.specs.declared.code.Code.the-variants as code
 use Rattle.code.specs.declared.control.CodeField.{CodeField}
 use Rattle.code.specs.declared.control.CodeField.the-variants.{Of, Absent}
@@ -37,6 +37,7 @@ row-by whose n true b p e number = ap (λ (k : ℕ). answer (some (whose + k))) 
 row-by whose n false b p e number = absurd (clash e)
 
 pub row-inside : (whose n : ℕ) (p : PreambleAddressCode) (b : Pair) → answer b ≡ rowBytes p → n ≡ bytesNumber b → answer (some (whose + n)) ≡ numberedControl whose (control.Preamble p)
+unfolding controlBytes
 row-inside whose n p b e number =
     as-tested whose (control.Preamble p) _ (row-by whose n (leb (p .row) 14) b (preambleBytes p) e number)
 
@@ -56,6 +57,7 @@ dressed whose a b la lb other =
     as-tested whose (control.Unknown a b) _ (rw (lt-ltb a 0x80 la, lt-ltb b 0x80 lb, no) refl)
 
 pub passes : (whose a b n : ℕ) → a < 128 → b < 128 → a / 16 ≡ 1 → n ≡ bytesNumber (pair a b) → answer (some (whose + 0x800 + n)) ≡ numberedUnknown whose a b
+unfolding controlBytes
 passes whose a b n la lb first e =
     let yes : isCommand a ≡ true = sym (in-row-one a la) ∙ eq-eqb (a / 16) 1 first in
     let sum : whose + 0x800 + n ≡ whose + (0x800 + bytesNumber (pair a b)) = omega (arith, e) in

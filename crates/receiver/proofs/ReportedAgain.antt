@@ -51,6 +51,7 @@ use Rattle.receiver.specs.Receiver.{Stepped, isLast, step, textFor}
 use Rattle.receiver.specs.SaidIsHeard.{Reported, ReportedAgainLaw, isText, only-a-first, only-a-second, two-letters}
 use Rattle.receiver.specs.declared.state.Cea608State.{Cea608State}
 use Rattle.receiver.specs.declared.state.LastChannel.{LastChannel}
+use Rattle.event.specs.Mode.{modeOf}
 use Rattle.receiver.specs.declared.state.LastChannel.the-variants as channel
 
 abbrev Again : Cea608 → Field → Type 0
@@ -68,6 +69,7 @@ none-given : (e : Cea608) (f : Field) → none ≡ some e → Again e f
 none-given e f no-event = absurd (Option·none-ne-some e no-event)
 
 command-again : (c : Command) (ch : Channel) (e : Cea608) (f : Field) → controlEvent ch (control.Command c) ≡ some e → Again e f
+unfolding codesOf modeOf
 command-again command.ResumeCaptionLoading ch e f is = is-given e f _ is (no-text-again _ f _ _ refl refl)
 command-again command.Backspace ch e f is = is-given e f _ is (no-text-again _ f _ _ refl refl)
 command-again command.AlarmOff ch e f is = none-given e f is
@@ -86,17 +88,20 @@ command-again command.EraseNonDisplayedMemory ch e f is = is-given e f _ is (no-
 command-again command.EndOfCaption ch e f is = is-given e f _ is (no-text-again _ f _ _ refl refl)
 
 tab-again : (t : Tab) (ch : Channel) (e : Cea608) (f : Field) → controlEvent ch (control.Tab t) ≡ some e → Again e f
+unfolding codesOf
 tab-again tab.TabOffset1 ch e f is = is-given e f _ is (no-text-again _ f _ _ refl refl)
 tab-again tab.TabOffset2 ch e f is = is-given e f _ is (no-text-again _ f _ _ refl refl)
 tab-again tab.TabOffset3 ch e f is = is-given e f _ is (no-text-again _ f _ _ refl refl)
 
 preamble-again : (p : PreambleAddressCode) (ch : Channel) (e : Cea608) (f : Field) → p .row < 15 → some (event.Preamble ch p) ≡ some e → Again e f
+unfolding codesOf
 preamble-again p ch e f inside is =
     is-given e f _ is
     (no-text-again (event.Preamble ch p) f (code.Control (controlCode f ch (control.Preamble p))) code.Nul refl (rw (le-leb (p .row) 14 (omega arith)) refl))
 
 -- a symbol, by its character
 symbol-by : (s : Symbol) (ch : Channel) (e : Cea608) (f : Field) (o : Option ℕ) → controlChar (control.Symbol s) ≡ o → symbolText ch s o ≡ some e → Again e f
+unfolding codesOf charOf
 symbol-by s ch e f none has is = none-given e f is
 symbol-by s ch e f (some c) has is =
     let x = code.Control (record { field = field.Absent; channel = ch; control = control.Symbol s }) in
@@ -108,6 +113,7 @@ symbol-by s ch e f (some c) has is =
     )
 
 control-again : (c : Control) (ch : Channel) (e : Cea608) (f : Field) → ((p : PreambleAddressCode) → c ≡ control.Preamble p → p .row < 15) → controlEvent ch c ≡ some e → Again e f
+unfolding codesOf
 control-again (control.MidRow m) ch e f row is = is-given e f _ is (no-text-again _ f _ _ refl refl)
 control-again (control.Symbol s) ch e f row is = symbol-by s ch e f (controlChar (control.Symbol s)) refl is
 control-again (control.Command c) ch e f row is = command-again c ch e f is
@@ -117,6 +123,7 @@ control-again (control.Unknown a b) ch e f row is = none-given e f is
 
 -- a single code of a pair is a letter, or has no character
 letter-or-none : (b : ℕ) → ((l : Letter) × (single b ≡ code.Letter l)) ⊎ (charOf (single b) ≡ none)
+unfolding charOf
 letter-or-none b = kind (eqb b 0) (leb 0x20 b)
   where
     kind : (t u : Bool) → ((l : Letter) × (cond t code.Nul (cond u (code.Letter (letterAt (b - 0x20))) (code.Unknown b)) ≡ code.Letter l)) ⊎ (charOf (cond t code.Nul (cond u (code.Letter (letterAt (b - 0x20))) (code.Unknown b))) ≡ none)
@@ -129,6 +136,7 @@ abbrev plainText : Channel → Character → Character → Text
 plainText ch k l = record { «needs_backspace» = false; char1 = k; char2 = l; channel = ch }
 
 letters-again : (l m : Letter) (ch : Channel) (e : Cea608) (f : Field) → textEvent ch (code.Letter l) (code.Letter m) ≡ some e → Again e f
+unfolding textEvent codesOf
 letters-again l m ch e f is =
     let one = a-letter-has-a-character l in
     let two = a-letter-has-a-character m in
@@ -138,6 +146,7 @@ letters-again l m ch e f is =
     (code.Letter l, code.Letter m, told, text-is-heard t f (code.Letter l) (code.Letter m) told (two-letters l m))
 
 first-again : (l : Letter) (y : Code) (ch : Channel) (e : Cea608) (f : Field) → charOf y ≡ none → textEvent ch (code.Letter l) y ≡ some e → Again e f
+unfolding textEvent codesOf
 first-again l y ch e f no-second is =
     let one = a-letter-has-a-character l in
     let told = ap (λ (o : Outcome Code). inOrder o (answer code.Nul)) (a-letter-is-its-characters-code l (one .0) ch (one .1)) in
@@ -146,6 +155,7 @@ first-again l y ch e f no-second is =
     (code.Letter l, code.Nul, told, text-is-heard t f (code.Letter l) code.Nul told (only-a-first l))
 
 second-again : (x : Code) (m : Letter) (ch : Channel) (e : Cea608) (f : Field) → charOf x ≡ none → textEvent ch x (code.Letter m) ≡ some e → Again e f
+unfolding textEvent codesOf
 second-again x m ch e f no-first is =
     let two = a-letter-has-a-character m in
     let told = ap (inOrder (answer code.Nul)) (a-letter-is-its-characters-code m (two .0) ch (two .1)) in
@@ -154,6 +164,7 @@ second-again x m ch e f no-first is =
     (code.Nul, code.Letter m, told, text-is-heard t f code.Nul (code.Letter m) told (only-a-second m))
 
 text-again : (a b : ℕ) (ch : Channel) (e : Cea608) (f : Field) → textEvent ch (single a) (single b) ≡ some e → Again e f
+unfolding textEvent
 text-again a b ch e f is = by-letters (letter-or-none a) (letter-or-none b)
   where
     by-letters : ((l : Letter) × (single a ≡ code.Letter l)) ⊎ (charOf (single a) ≡ none) → ((m : Letter) × (single b ≡ code.Letter m)) ⊎ (charOf (single b) ≡ none) → Again e f
@@ -177,6 +188,7 @@ answer-of false x y = refl
 
 module _ (s : Cea608State) (p : Pair) (e : Cea608) (f : Field) (is : step s p .0 ≡ answer (some e)) where
   read-command : isOddPair p ≡ true → isCommandPair p ≡ true → Again e f
+  unfolding eventOf
   read-command odd command =
       let parity = both-true (isOdd (p .0)) (isOdd (p .1)) odd in
       let c = commandOf (stripped (p .0)) (stripped (p .1)) in

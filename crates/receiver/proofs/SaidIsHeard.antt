@@ -26,14 +26,14 @@ use Rattle.code.specs.declared.control.Command.the-variants as command
 use Rattle.code.specs.declared.control.Control.{Control}
 use Rattle.code.specs.declared.control.Control.the-variants as control
 use Rattle.code.specs.declared.preamble.PreambleAddressCode.{PreambleAddressCode}
-use Rattle.event.specs.IntoCode.{Turned, alone, codes, no-character, orRefusal, refusal}
-use Rattle.event.specs.Mode.{commandOf}
+use Rattle.event.specs.IntoCode.{alone, codes, codesOf, no-character, orRefusal, refusal, Turned}
+use Rattle.event.specs.Mode.{commandOf, modeOf}
 use Rattle.event.specs.declared.event.Cea608.{Cea608}
 use Rattle.event.specs.declared.event.Cea608.the-variants as event
 use Rattle.event.specs.declared.mode.Mode.{Mode}
 use Rattle.event.specs.declared.mode.Mode.the-variants.{PopOn, PaintOn, RollUp2, RollUp3, RollUp4}
 use Rattle.receiver.proofs.Step.{command-acts}
-use Rattle.receiver.specs.Heard.{controlEvent}
+use Rattle.receiver.specs.Heard.{controlEvent, eventOf}
 use Rattle.receiver.specs.Receiver.{Stepped}
 use Rattle.receiver.specs.SaidIsHeard.{Reported, SaidIsHeardLaw}
 
@@ -44,6 +44,7 @@ nul-written = refl
 
 -- a control that has an event and is read back is reported
 pub control-reported : (f : CodeField) (ch : Channel) (c : Control) (e : Cea608) → ReadsBack f ch c → controlEvent ch c ≡ some e → Reported (code.Control (record { field = f; channel = ch; control = c })) code.Nul e
+unfolding eventOf
 control-reported f ch c e back is = record {
   sent = back .sent;
   written = ap₂ together (back .written) nul-written;
@@ -95,6 +96,7 @@ command-reported : (f : Field) (ch : Channel) (c : Command) (e : Cea608) (x y : 
 command-reported f ch c e x y is told = alone-reported f ch (control.Command c) e x y (command-reads-back (field.Of f) ch c) is told
 
 mode-reported : (ch : Channel) (m : Mode) → controlEvent ch (control.Command (commandOf m)) ≡ some (event.NewMode ch m)
+unfolding modeOf
 mode-reported ch PopOn = refl
 mode-reported ch PaintOn = refl
 mode-reported ch RollUp2 = refl
@@ -102,6 +104,7 @@ mode-reported ch RollUp3 = refl
 mode-reported ch RollUp4 = refl
 
 pub said-is-heard : SaidIsHeardLaw
+unfolding codesOf
 said-is-heard (event.Text t) f x y is told = absurd (true≢false is)
 said-is-heard (event.NewMode ch m) f x y is told = command-reported f ch (commandOf m) (event.NewMode ch m) x y (mode-reported ch m) told
 said-is-heard (event.EraseDisplay ch) f x y is told = command-reported f ch command.EraseDisplayedMemory (event.EraseDisplay ch) x y refl told

@@ -24,6 +24,7 @@ use Rattle.receiver.specs.Heard.{commandEvent, controlEvent, eventOf}
 use Rattle.receiver.specs.Reading.{afterReadingOnce, once, onceCodes}
 use Rattle.receiver.specs.Receiver.{acts, afterReading, heardCodes, heardCommand, heardText, isLast, state, step, Stepped}
 use Rattle.receiver.specs.declared.state.Cea608State.{Cea608State}
+use Rattle.event.specs.Mode.{modeOf}
 use Rattle.receiver.specs.declared.state.LastPair.the-variants as last
 
 -- a pair that is read as a command
@@ -32,6 +33,7 @@ IsCommand p c = (y : Code) × (readPair (p .0) (p .1) ≡ answer (code.Control c
 
 -- a command does what `heardCommand` says
 pub step-command : (s : Cea608State) (p : Pair) (c : ControlCode) → IsCommand p c → step s p ≡ heardCommand s p c
+unfolding step
 step-command s p c h = ap (afterReading s p) (h .1)
 
 -- one that is not the last pair acts
@@ -44,10 +46,12 @@ repeat-is-skipped s p c h same = step-command s p c h ∙ rw same
 
 -- where it is not the last pair, `once` is `step`
 pub once-where-no-repeat : (s : Cea608State) (p : Pair) (c : ControlCode) → IsCommand p c → isLast p (s .«last_data») ≡ false → once s p ≡ step s p
+unfolding once
 once-where-no-repeat s p c h other = ap (afterReadingOnce s p) (h .1) ∙ sym (command-acts s p c h other)
 
 -- a pair that cannot be read is refused by the reading's number
 pub hit-is-refused : (s : Cea608State) (p : Pair) (n : ℕ) → readPair (p .0) (p .1) ≡ refused n → step s p ≡ (refused n, s)
+unfolding step
 hit-is-refused s p n h = ap (afterReading s p) h
 
 -- so the refusal is 1, exactly where a byte has an even count of ones
@@ -70,6 +74,7 @@ module _ (s : Cea608State) (p : Pair) (n : ℕ) where
   refused-reading (refused m) e = refl
 
   pub a-refusal-changes-nothing : step s p .0 ≡ refused n → step s p .1 ≡ s
+  unfolding step
   a-refusal-changes-nothing e = refused-reading (readPair (p .0) (p .1)) e
 
   codes-are-answered : (x y : Code) → heardCodes s p x y .0 ≡ refused n → ⊥
@@ -79,6 +84,7 @@ module _ (s : Cea608State) (p : Pair) (n : ℕ) where
   codes-are-answered (code.Unknown b) y e = clash e
 
   pub odd-is-not-refused : isOddPair p ≡ true → step s p .0 ≡ refused n → ⊥
+  unfolding step
   odd-is-not-refused odd e =
       let codes = codesOf (stripped (p .0)) (stripped (p .1)) in
       codes-are-answered (codes .0) (codes .1) (sym (ap (λ (o : Outcome (Code × Code)). afterReading s p o .0) (odd-is-read (p .0) (p .1) odd)) ∙ e)
@@ -91,12 +97,14 @@ no-command s p (code.Letter l) y h = refl
 no-command s p (code.Unknown b) y h = refl
 
 pub text-is-never-skipped : (s : Cea608State) (p : Pair) → isOdd (p .0) ≡ true → isOdd (p .1) ≡ true → isCommand (stripped (p .0)) ≡ false → step s p ≡ heardText s p (single (stripped (p .0))) (single (stripped (p .1)))
+unfolding step
 text-is-never-skipped s p odd0 odd1 text =
     ap (afterReading s p) (read-as-text (p .0) (p .1) odd0 odd1 text)
     ∙ no-command s p (single (stripped (p .0))) (single (stripped (p .1))) (single-is-no-command (stripped (p .0)))
 
 -- read once, a command acts and text is text
 pub command-once : (s : Cea608State) (p : Pair) (c : ControlCode) → IsCommand p c → once s p ≡ acts s p c
+unfolding once
 command-once s p c h = ap (afterReadingOnce s p) (h .1)
 
 no-command-once : (s : Cea608State) (p : Pair) (x y : Code) → ((c : ControlCode) → x ≡ code.Control c → ⊥) → onceCodes s p x y ≡ heardText s p x y
@@ -106,12 +114,14 @@ no-command-once s p (code.Letter l) y h = refl
 no-command-once s p (code.Unknown b) y h = refl
 
 pub text-once : (s : Cea608State) (p : Pair) → isOdd (p .0) ≡ true → isOdd (p .1) ≡ true → isCommand (stripped (p .0)) ≡ false → once s p ≡ heardText s p (single (stripped (p .0))) (single (stripped (p .1)))
+unfolding once
 text-once s p odd0 odd1 text =
     ap (afterReadingOnce s p) (read-as-text (p .0) (p .1) odd0 odd1 text)
     ∙ no-command-once s p (single (stripped (p .0))) (single (stripped (p .1))) (single-is-no-command (stripped (p .0)))
 
 -- alarms, flash and the text commands, `Unknown`, and a symbol without a character have no event
 pub commands-without-event : (ch : Channel) → map (commandEvent ch) (AlarmOff ∷ AlarmOn ∷ FlashOn ∷ TextRestart ∷ ResumeTextDisplay ∷ []) ≡ none ∷ none ∷ none ∷ none ∷ none ∷ []
+unfolding modeOf
 commands-without-event ch = refl
 
 pub unknown-without-event : (ch : Channel) (a b : ℕ) → controlEvent ch (control.Unknown a b) ≡ none

@@ -21,20 +21,21 @@ use Rattle.code.specs.declared.control.ControlCode.{ControlCode}
 use Rattle.code.specs.declared.letter.Letter.{Letter}
 use Rattle.code.specs.declared.pair.Pair.{Pair}
 use Rattle.code.specs.declared.symbol.Symbol.{Symbol}
-use Rattle.event.specs.IntoCode.{characterCode, codes, inOrder}
+use Rattle.event.specs.IntoCode.{characterCode, codes, codesOf, inOrder}
 use Rattle.event.specs.declared.event.Cea608.{Cea608}
 use Rattle.event.specs.declared.event.Cea608.the-variants as event
 use Rattle.event.specs.declared.event.Text.{Text}
 use Rattle.receiver.proofs.SaidIsHeard.{control-reported, first-code, second-code}
 use Rattle.receiver.specs.Heard as heard
 use Rattle.receiver.specs.Heard.{textEvent, textOf}
-use Rattle.receiver.specs.Receiver.{Stepped, afterReading, heardCodes, heardText, textFor}
+use Rattle.receiver.specs.Receiver.{afterReading, heardCodes, heardText, step, Stepped, textFor}
 use Rattle.receiver.specs.SaidIsHeard.{OnePair, Reported, TextIsHeardLaw, marked, only-a-first, only-a-second, only-a-symbol, two-letters}
 use Rattle.receiver.specs.declared.state.Cea608State.{Cea608State}
 use Rattle.receiver.specs.declared.state.LastChannel.{LastChannel}
 
 -- the code of a character, or NUL for none, has that character
 pub has-its-character : (k : Character) (ch : Channel) (x : Code) → characterCode k ch ≡ answer x → charOf x ≡ characterOutcome k
+unfolding charOf
 has-its-character (character.Point c) ch x e = a-characters-code-has-it c ch x e
 has-its-character character.Absent ch x e = ap charOf (sym (same e))
 
@@ -55,6 +56,7 @@ made ch character.Absent character.Absent some-character = absurd (some-characte
 
 -- single codes that are read back are reported as text
 plain-reported : (t : Text) (x y : Code) → TextReadsBack x y → ((s : Cea608State) (p : Pair) → heardCodes s p x y ≡ heardText s p x y) → textEvent (t .channel) x y ≡ some (event.Text t) → Reported x y (event.Text t)
+unfolding step
 plain-reported t x y back as-text is = record {
   sent = back .sent;
   written = back .written;
@@ -73,6 +75,7 @@ module _ (t : Text) (x y : Code) (first : characterCode (t .char1) (t .channel) 
   second-is = has-its-character (t .char2) (t .channel) y second
 
   pub its-text : (charOf x ≡ none → charOf y ≡ none → ⊥) → textEvent (t .channel) x y ≡ some (event.Text (record { «needs_backspace» = false; char1 = t .char1; char2 = t .char2; channel = t .channel }))
+  unfolding textEvent
   its-text some-character =
       ap₂ (textOf (t .channel)) first-is second-is
       ∙ made (t .channel) (t .char1) (t .char2) (λ no-first no-second. some-character (first-is ∙ no-first) (second-is ∙ no-second))
@@ -92,6 +95,7 @@ abbrev asText : ControlCode → Character → Character → Channel → Cea608
 asText c k l ch = event.Text (record { «needs_backspace» = needsBackspace (code.Control c); char1 = k; char2 = l; channel = ch })
 
 symbol-heard : (ch : Channel) (k l : Character) (c : ControlCode) → characterCode k ch ≡ answer (code.Control c) → characterCode l ch ≡ answer code.Nul → Reported (code.Control c) code.Nul (asText c k l ch)
+unfolding charOf
 symbol-heard ch (character.Point p) l c first second =
     let found = a-characters-control-is-a-symbol p ch c first in
     let s = found .0 in
@@ -115,6 +119,7 @@ shared t x y first second (only-a-second l) =
 shared t x y first second (only-a-symbol c) = symbol-heard (t .channel) (t .char1) (t .char2) c first second
 
 pub text-is-heard : TextIsHeardLaw
+unfolding codesOf
 text-is-heard t f x y told one =
     let both = both-codes (characterCode (t .char1) (t .channel)) (characterCode (t .char2) (t .channel)) x y told in
     shared t x y (both .0) (both .1) one

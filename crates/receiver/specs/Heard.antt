@@ -83,7 +83,7 @@ controlEvent ch (control.Tab t) = some (event.TabOffset ch (tabNumber t))
 controlEvent ch (control.Preamble p) = some (event.Preamble ch p)
 controlEvent ch (control.Unknown a b) = none
 
-abbrev pub eventOf : ControlCode → Option Cea608
+unfoldable pub eventOf : ControlCode → Option Cea608
 eventOf c = controlEvent (c .channel) (c .control)
 
 -- one or two characters, or nothing where there is none
@@ -92,7 +92,7 @@ textOf ch none none = none
 textOf ch none (some d) = some (event.Text (record { «needs_backspace» = false; char1 = character.Absent; char2 = character.Point d; channel = ch }))
 textOf ch (some c) second = some (event.Text (record { «needs_backspace» = false; char1 = character.Point c; char2 = characterFrom second; channel = ch }))
 
-abbrev pub textEvent : Channel → Code → Code → Option Cea608
+unfoldable pub textEvent : Channel → Code → Code → Option Cea608
 textEvent ch x y = textOf ch (charOf x) (charOf y)
 
 abbrev pub heardOutcome : Heard → Outcome (Option Cea608)

@@ -43,7 +43,7 @@ abbrev pub afterReadingOnce : Cea608State → Pair → Outcome (Code × Code) �
 afterReadingOnce s p (answer codes) = onceCodes s p (codes .0) (codes .1)
 afterReadingOnce s p (refused n) = (refused n, s)
 
-abbrev pub once : Cea608State → Pair → Stepped
+unfoldable pub once : Cea608State → Pair → Stepped
 once s p = afterReadingOnce s p (readPair (p .0) (p .1))
 
 abbrev pub readOnce : Cea608State → List Pair → List (Outcome (Option Cea608))

@@ -75,7 +75,7 @@ abbrev pub afterReading : Cea608State → Pair → Outcome (Code × Code) → St
 afterReading s p (answer codes) = heardCodes s p (codes .0) (codes .1)
 afterReading s p (refused n) = (refused n, s)
 
-abbrev pub step : Cea608State → Pair → Stepped
+unfoldable pub step : Cea608State → Pair → Stepped
 step s p = afterReading s p (readPair (p .0) (p .1))
 
 abbrev pub decodedOutcome : Decoded → Stepped

@@ -12,7 +12,7 @@ use lib.Count.{ones, onesIn}
 use lib.Dec.{leb}
 use lib.ListN.{length, length-replicate, replicate}
 use Rattle.code.specs.Outcome.{Outcome, answer}
-use Rattle.code.specs.Write.{inDomain, writeCode}
+use Rattle.code.specs.Write.{controlBytes, inDomain, onLine, writeCode}
 use Rattle.code.specs.declared.code.Code.{Code}
 use Rattle.queue.specs.Number.{codeOf}
 use Rattle.queue.specs.Queue.{admit, entered, pairOf, pop, queued}
@@ -28,6 +28,7 @@ use Rattle.sender.specs.Good.{Good}
 use Rattle.sender.specs.Sender.{freshSender, idleSender, pushSender, sendSender, view, wellFormed}
 use Rattle.sender.specs.SendsLeft.{A-acute, fullOf, sendsFor, sendsLeft}
 use Rattle.sender.specs.Sending.{Sending, push, repeating, send, sendingOf}
+use Rattle.code.specs.Read.{meaning}
 use Rattle.sender.specs.declared.sender.Sender.{Sender}
 
 -- such a code takes three sends, and the repeat of the one before is owed
@@ -56,7 +57,7 @@ unfolding admit inDomain queueable
 admitted n less = rw (lt-leb 64 n less) refl
 
 sent-once : (view sentOnce ≡ fullOf A-acute 0) × Good sentOnce
-unfolding ones onesIn codeOf writeCode inDomain queueable admit pairOf pop pushRing popRing ring.wellFormed wellFormed pushSender send sendSender
+unfolding ones onesIn codeOf writeCode inDomain queueable admit pairOf pop pushRing popRing ring.wellFormed wellFormed pushSender send sendSender onLine controlBytes meaning
 sent-once = (refl, record { formed = refl; places = refl })
 
 pub pushed-good : (n : ℕ) → Good (pushedTimes n sentOnce)

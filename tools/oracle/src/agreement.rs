@@ -1,21 +1,24 @@
-//! Demand 3 of the letter, as a run. Codes are pushed into a fresh sender and pairs are sent in
-//! random order until it is idle; a line spoils pairs as the demand allows, puts padding in and takes
-//! padding out; a fresh receiver decodes what arrives. `replay` is asked every push, send and decode.
-//! That what is decoded agrees with what was queued is checked here, on the very answers that `replay`
-//! is held to: pairs and events are the crate's, and the repeats are the model's in `sender`.
+//! Demand 3 of the letter, as a run. Codes are pushed into a fresh sender, pairs are sent and drained,
+//! and it is asked how it stands, in random order until it is idle. A line corrupts pairs as the demand
+//! allows, and padding is put in and taken out: before the pairs are doubled and sent, anywhere; or in
+//! what was received, where that is harmless. A fresh receiver decodes what arrives. `replay` is asked
+//! every call and every decode. That what is decoded agrees with what was queued is checked here, on the
+//! very answers that `replay` is held to: pairs and events are the crate's, and the repeats are the
+//! model's in `sender`.
 
 use crate::any_code::any_code;
+use crate::line::{carry, Arrived, Hits, Pair};
 use crate::names::{COMMANDS, LETTERS};
+use crate::padding::{noticed_places, Changed, Padding};
 use crate::queue::{self, is_command, plain};
 use crate::random::{Random, SEED};
 use crate::receiver::{heard, Heard, Receiver, HI, PADDING};
 use crate::rounds::Beside;
-use crate::sender::{is_odd, Asked};
+use crate::sender::{is_odd, Asked, Sent};
+use crate::sender_sets::any_drain;
 use crate::transcript::Transcript;
 use cea608_types::tables::{Channel, Code, Field};
 use cea608_types::{Cea608, Cea608State, Mode, Text};
-
-type Pair = [u8; 2];
 
 /// At least so many pairs arrive, all sessions together.
 const PAIRS: usize = 300_000;
@@ -23,63 +26,152 @@ const PAIRS: usize = 300_000;
 /// One stretch in so many is hit; 0 is none.
 const HITS: [u32; 4] = [0, 6, 2, 1];
 
-/// At one in so many places where it may be put in stands padding, 0 is none; and how many pairs of
-/// it at most.
-const PADDINGS: [(u32, u32); 5] = [(0, 0), (9, 1), (3, 1), (1, 1), (1, 9)];
+/// How often padding is put in, and how much of it at most.
+const PADDINGS: [(u32, u32); 5] = [(0, 1), (9, 1), (3, 1), (1, 1), (1, 9)];
 
-/// What a line does to what it carries.
+/// When padding is put in and taken out.
 #[derive(Clone, Copy)]
-struct Density {
-    hits: u32,
-    padding: (u32, u32),
-    takes_padding_out: bool,
+enum When {
+    BeforeSending,
+    AsReceived,
 }
 
-fn densities() -> Vec<Density> {
+/// What happens to what was queued on its way to the receiver.
+#[derive(Clone, Copy)]
+struct Way {
+    hits: u32,
+    padding: Padding,
+    when: When,
+}
+
+fn ways() -> Vec<Way> {
     let mut all = vec![];
-    for takes_padding_out in [false, true] {
-        for padding in PADDINGS {
-            all.extend(HITS.map(|hits| Density {
-                hits,
-                padding,
-                takes_padding_out,
-            }));
+    for when in [When::AsReceived, When::BeforeSending] {
+        for takes_out in [false, true] {
+            for (one_in, most) in PADDINGS {
+                all.extend(HITS.map(|hits| Way {
+                    hits,
+                    padding: Padding {
+                        one_in,
+                        most,
+                        takes_out,
+                    },
+                    when,
+                }));
+            }
         }
     }
     all
 }
 
-/// Sessions, each from a fresh sender and a fresh receiver, on lines of every density in turn.
+/// What all sessions came to.
+#[derive(Default)]
+struct Met {
+    queue: queue::Met,
+    sessions: usize,
+    arrived: usize,
+    drained: usize,
+    noticed: usize,
+    hits: Hits,
+    before_sending: Changed,
+    as_received: Changed,
+}
+
+impl Met {
+    /// A comparison that never came to a case would say nothing of it.
+    fn reached_everything(&self) {
+        self.queue.reached_everything();
+        self.hits.reached_everything();
+        self.as_received.reached_everything();
+        let anywhere = &self.before_sending;
+        assert!(anywhere.put_in > 1000 && anywhere.taken_out > 1000);
+        assert!(self.drained > 1000, "too few pairs drained");
+        assert!(self.noticed > 100, "padding was hardly ever noticed");
+    }
+}
+
+/// Sessions, each from a fresh sender and a fresh receiver, each way in turn.
 pub fn sessions(to: &mut Transcript, random: &mut Random) {
     limits(to);
     let mut met = Met::default();
-    for density in densities().into_iter().cycle() {
+    for way in ways().into_iter().cycle() {
         let bursts = 1 + random.below(5);
-        session(to, random, bursts, density, &mut met);
+        session(to, random, bursts, way, &mut met);
         if met.arrived >= PAIRS {
             break;
         }
     }
     met.reached_everything();
     print!(
-        "{} pairs received in {} sessions, {} corrupted, {} of padding put in, {} taken out: ",
-        met.arrived, met.sessions, met.spoiled, met.put_in, met.taken_out
+        "{} pairs received in {} sessions, {} drained, {} corrupted, padding put in {} and {} times, noticed {} times: ",
+        met.arrived,
+        met.sessions,
+        met.drained,
+        met.hits.spoiled,
+        met.before_sending.put_in,
+        met.as_received.put_in,
+        met.noticed
     );
 }
 
-fn session(to: &mut Transcript, random: &mut Random, bursts: u32, density: Density, met: &mut Met) {
+fn session(to: &mut Transcript, random: &mut Random, bursts: u32, way: Way, met: &mut Met) {
     let spoken = speak(to, random, bursts, met);
-    let line = Line {
-        random,
-        density,
-        held: None,
-        arrived: vec![],
-        met,
+    let arrived = match way.when {
+        When::BeforeSending => {
+            let padded =
+                way.padding
+                    .before_sending(&spoken.popped, random, &mut met.before_sending);
+            carry(&doubled(&padded), random, way.hits, &mut met.hits)
+        }
+        When::AsReceived => {
+            let came = carry(&spoken.sent, random, way.hits, &mut met.hits);
+            notice(to, random, &came, met);
+            let padded = way.padding.as_received(&came, random, &mut met.as_received);
+            let same = answers_to_others(&came) == answers_to_others(&padded);
+            assert!(same, "padding where it is harmless changes an answer");
+            padded
+        }
     };
-    let arrived = line.carry(&spoken.sent);
     check(&spoken, &arrived, &hear(to, &arrived));
     met.sessions += 1;
     met.arrived += arrived.len();
+}
+
+/// Each command twice in a row, text once.
+fn doubled(pairs: &[Pair]) -> Vec<Pair> {
+    let copies = |&pair: &Pair| vec![pair; 1 + usize::from(is_command(pair))];
+    pairs.iter().flat_map(copies).collect()
+}
+
+/// Padding at a place that is not harmless changes the answer to another pair.
+fn notice(to: &mut Transcript, random: &mut Random, came: &[Arrived], met: &mut Met) {
+    let places = noticed_places(came);
+    if places.is_empty() || random.below(4) != 0 {
+        return;
+    }
+    let place = random.pick(&places);
+    let mut padded = came.to_vec();
+    let padding = Arrived {
+        pair: PADDING,
+        spoiled: false,
+    };
+    padded.insert(place, padding);
+    hear(to, &padded);
+    let same = answers_to_others(came) == answers_to_others(&padded);
+    assert!(!same, "padding at place {place} is not noticed");
+    met.noticed += 1;
+}
+
+/// The crate's answers to all pairs but padding.
+fn answers_to_others(arrived: &[Arrived]) -> Vec<Heard> {
+    let mut state = Cea608State::default();
+    let answers = arrived
+        .iter()
+        .map(|next| (next.pair, heard(&mut state, next.pair)));
+    answers
+        .filter(|&(pair, _)| pair != PADDING)
+        .map(|(_, answer)| answer)
+        .collect()
 }
 
 /// The codes that were accepted, what was sent, and of that what the queue gave, which is all but the
@@ -101,13 +193,24 @@ impl Spoken {
         }
     }
 
-    fn send(&mut self, asked: &mut Asked) {
-        let is_repeat = asked.model.owed.is_some();
-        let pair = asked.send();
-        self.sent.push(pair);
-        if !is_repeat {
-            self.popped.push(pair);
-            self.codes.push(asked.model.writer.taken.clone());
+    fn note(&mut self, sent: Sent) {
+        self.sent.push(sent.pair);
+        if let Some(taken) = sent.taken {
+            self.popped.push(sent.pair);
+            self.codes.push(taken);
+        }
+    }
+
+    /// A send or, now and then, a drain; and now and then it is asked how the sender stands.
+    fn send(&mut self, asked: &mut Asked, random: &mut Random, met: &mut Met) {
+        match random.below(8) {
+            0 => {
+                let drained = asked.drain(any_drain(random));
+                met.drained += drained.len();
+                drained.into_iter().for_each(|sent| self.note(sent));
+            }
+            1 => asked.look(),
+            _ => self.note(asked.send()),
         }
     }
 
@@ -125,13 +228,13 @@ impl Spoken {
 
     fn send_until_idle(&mut self, asked: &mut Asked) {
         while !asked.ask_idle() {
-            self.send(asked);
+            self.note(asked.send());
         }
     }
 }
 
-/// Pushes and sends in random order, the sends now and then going on while there is nothing to say,
-/// and then sends until idle.
+/// Calls in random order, the sends now and then going on while there is nothing to say, and then
+/// sends until idle.
 fn speak(to: &mut Transcript, random: &mut Random, bursts: u32, met: &mut Met) -> Spoken {
     let mut asked = Asked::new(to);
     let mut spoken = Spoken::default();
@@ -144,173 +247,17 @@ fn speak(to: &mut Transcript, random: &mut Random, bursts: u32, met: &mut Met) -
             }
             spoken.push(&mut asked, code);
             if random.below(6) == 0 {
-                spoken.send(&mut asked);
+                spoken.send(&mut asked, random, met);
             }
         }
         for _ in 0..random.pick(&[0, 1, 2, 5, 30, 100]) {
-            spoken.send(&mut asked);
+            spoken.send(&mut asked, random, met);
         }
     }
     spoken.send_until_idle(&mut asked);
     spoken.check_codes();
     met.queue.add(&asked.model.writer.met);
     spoken
-}
-
-/// A pair as it came.
-struct Arrived {
-    pair: Pair,
-    spoiled: bool,
-}
-
-/// How often a line did what it should do.
-#[derive(Default)]
-struct Met {
-    queue: queue::Met,
-    sessions: usize,
-    arrived: usize,
-    spoiled: usize,
-    /// By how many bits of the first byte and of the second are turned.
-    hits: [[usize; 9]; 9],
-    first_copies: usize,
-    last_copies: usize,
-    longest_stretch: usize,
-    put_in: usize,
-    taken_out: usize,
-}
-
-impl Met {
-    /// A comparison that never came to a case would say nothing of it.
-    fn reached_everything(&self) {
-        self.queue.reached_everything();
-        for (first, row) in self.hits.iter().enumerate() {
-            for (second, &count) in row.iter().enumerate() {
-                let shows = first % 2 == 1 || second % 2 == 1;
-                assert_eq!(
-                    count > 0,
-                    shows,
-                    "hits of {first} and {second} bits: {count}"
-                );
-            }
-        }
-        for (count, what) in [
-            (self.first_copies, "hits on a first copy"),
-            (self.last_copies, "hits on a last copy"),
-            (self.put_in, "pairs of padding put in"),
-            (self.taken_out, "pairs of padding taken out"),
-        ] {
-            assert!(count > 1000, "too few {what}");
-        }
-        assert!(self.longest_stretch >= 8, "no long stretch");
-    }
-}
-
-/// A line of demand 3. It spoils no pair that is not a command, and at most one copy in each
-/// unbroken stretch of one command pair. Padding it puts in and takes out only where no repeat is
-/// awaited.
-struct Line<'a> {
-    random: &'a mut Random,
-    density: Density,
-    /// The last pair that the receiver holds, if it holds one.
-    held: Option<Pair>,
-    arrived: Vec<Arrived>,
-    met: &'a mut Met,
-}
-
-impl Line<'_> {
-    fn carry(mut self, sent: &[Pair]) -> Vec<Arrived> {
-        let mut rest = sent;
-        while let Some(&pair) = rest.first() {
-            let length = rest.iter().take_while(|&&other| other == pair).count();
-            let place = self.place_of_hit(pair, length);
-            for copy in 0..length {
-                self.put_padding_in();
-                if place == Some(copy) {
-                    self.spoils(pair);
-                } else if !self.takes_out(pair) {
-                    self.arrives(pair);
-                }
-            }
-            rest = &rest[length..];
-        }
-        self.put_padding_in();
-        self.arrived
-    }
-
-    /// Which copy of a stretch is hit, if one is.
-    fn place_of_hit(&mut self, pair: Pair, length: usize) -> Option<usize> {
-        if !is_command(pair) || !self.one_in(self.density.hits) {
-            return None;
-        }
-        let place = self.random.below(length as u32) as usize;
-        self.met.first_copies += usize::from(place == 0);
-        self.met.last_copies += usize::from(place + 1 == length);
-        self.met.longest_stretch = self.met.longest_stretch.max(length);
-        Some(place)
-    }
-
-    fn one_in(&mut self, many: u32) -> bool {
-        many != 0 && self.random.below(many) == 0
-    }
-
-    fn awaits_a_repeat(&self) -> bool {
-        self.held.is_some_and(is_command)
-    }
-
-    fn put_padding_in(&mut self) {
-        let (one_in, most) = self.density.padding;
-        if !self.awaits_a_repeat() && self.one_in(one_in) {
-            for _ in 0..=self.random.below(most) {
-                self.arrives(PADDING);
-                self.met.put_in += 1;
-            }
-        }
-    }
-
-    fn takes_out(&mut self, pair: Pair) -> bool {
-        let out = pair == PADDING
-            && self.density.takes_padding_out
-            && !self.awaits_a_repeat()
-            && self.one_in(2);
-        self.met.taken_out += usize::from(out);
-        out
-    }
-
-    fn arrives(&mut self, pair: Pair) {
-        let is_repeat = is_command(pair) && self.held == Some(pair);
-        self.held = (!is_repeat).then_some(pair);
-        self.arrived.push(Arrived {
-            pair,
-            spoiled: false,
-        });
-    }
-
-    /// Turns bits of a command pair, an odd number of them in one byte at least.
-    fn spoils(&mut self, [first, second]: Pair) {
-        let kind = loop {
-            let kind = [self.random.below(9), self.random.below(9)];
-            if kind.iter().any(|bits| bits % 2 == 1) {
-                break kind;
-            }
-        };
-        let pair = [self.turned(first, kind[0]), self.turned(second, kind[1])];
-        assert!(!is_odd(pair), "parity does not show {pair:02X?}");
-        self.met.hits[kind[0] as usize][kind[1] as usize] += 1;
-        self.met.spoiled += 1;
-        self.arrived.push(Arrived {
-            pair,
-            spoiled: true,
-        });
-    }
-
-    /// A byte with so many of its bits turned.
-    fn turned(&mut self, byte: u8, bits: u32) -> u8 {
-        let mut mask: u8 = 0;
-        while mask.count_ones() < bits {
-            mask |= 1 << self.random.below(8);
-        }
-        byte ^ mask
-    }
 }
 
 /// What a receiver answered, and its state at the end: the field, and the channel by what it says to
@@ -476,19 +423,32 @@ fn limits(to: &mut Transcript) {
 }
 
 /// The limits, and from a fixed seed a session on a clean line, on one that hits every stretch, and
-/// on one that also puts padding in and takes it out.
+/// two with padding put in and taken out: before sending, and in what was received.
 pub fn sample(to: &mut Transcript) {
     limits(to);
     let mut random = Random::from_seed(SEED);
     let mut met = Met::default();
-    for (hits, padding) in [(0, (0, 0)), (1, (0, 0)), (1, (2, 2))] {
-        let density = Density {
+    for (hits, one_in, when) in [
+        (0, 0, When::AsReceived),
+        (1, 0, When::AsReceived),
+        (1, 2, When::BeforeSending),
+        (1, 2, When::AsReceived),
+    ] {
+        let padding = Padding {
+            one_in,
+            most: 2,
+            takes_out: one_in != 0,
+        };
+        let way = Way {
             hits,
             padding,
-            takes_padding_out: padding.0 != 0,
+            when,
         };
-        session(to, &mut random, 3, density, &mut met);
+        session(to, &mut random, 5, way, &mut met);
     }
-    let done = [met.spoiled, met.put_in, met.taken_out];
-    assert!(done.iter().all(|&count| count > 5), "too few: {done:?}");
+    let changed = [&met.before_sending, &met.as_received];
+    for changed in changed {
+        assert!(changed.put_in > 5 && changed.taken_out > 5);
+    }
+    assert!(met.hits.spoiled > 5 && met.drained > 5);
 }

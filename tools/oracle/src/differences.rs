@@ -170,7 +170,7 @@ fn sent(to: &mut Transcript, codes: &[Code], pairs: &[Pair]) {
     codes.iter().for_each(|&code| asked.push(code));
     for &pair in pairs {
         assert!(!asked.ask_idle());
-        assert_eq!(asked.send(), pair, "of {codes:?}");
+        assert_eq!(asked.send().pair, pair, "of {codes:?}");
     }
     assert!(asked.ask_idle());
 }

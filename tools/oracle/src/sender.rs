@@ -22,6 +22,13 @@ pub fn is_odd(pair: [u8; 2]) -> bool {
     pair.iter().all(|byte| byte.count_ones() % 2 == 1)
 }
 
+/// A pair that was sent, and the codes that the queue took for it, unless it is a repeat.
+#[derive(Clone)]
+pub struct Sent {
+    pub pair: [u8; 2],
+    pub taken: Option<Vec<Code>>,
+}
+
 /// 01's sender over the crate's writer.
 #[derive(Default)]
 pub struct Model {
@@ -30,30 +37,32 @@ pub struct Model {
 }
 
 impl Model {
-    pub fn send(&mut self) -> [u8; 2] {
+    pub fn send(&mut self) -> Sent {
         if let Some(pair) = self.owed.take() {
-            return pair;
+            return Sent { pair, taken: None };
         }
         let pair = self.writer.pop();
         self.owed = is_command(pair).then_some(pair);
-        pair
+        let taken = Some(self.writer.taken.clone());
+        Sent { pair, taken }
     }
 
     pub fn is_idle(&self) -> bool {
         self.writer.n_codes() == 0 && self.owed.is_none()
     }
 
-    fn drain(&mut self, output: &mut [u8], start: usize, limit: usize) -> Result<usize, u8> {
+    fn drain(&mut self, output: &mut [u8], start: usize, limit: usize) -> Result<Vec<Sent>, u8> {
         let part = output.get_mut(start..).ok_or(PAST_END)?;
-        let mut sends = 0;
+        let mut all = vec![];
         for room in part.chunks_exact_mut(2).take(limit) {
             if self.is_idle() {
                 break;
             }
-            room.copy_from_slice(&self.send());
-            sends += 1;
+            let sent = self.send();
+            room.copy_from_slice(&sent.pair);
+            all.push(sent);
         }
-        Ok(sends)
+        Ok(all)
     }
 }
 
@@ -134,13 +143,14 @@ impl<'a> Asked<'a> {
         }
     }
 
-    pub fn send(&mut self) -> [u8; 2] {
-        let pair = self.model.send();
-        self.to.add(0x41, &[], &[0, pair[0], pair[1]]);
-        pair
+    pub fn send(&mut self) -> Sent {
+        let sent = self.model.send();
+        let [first, second] = sent.pair;
+        self.to.add(0x41, &[], &[0, first, second]);
+        sent
     }
 
-    fn count(&mut self) {
+    pub fn count(&mut self) {
         let answer = count_answer(self.n_codes());
         self.to.add(0x42, &[], &answer);
     }
@@ -151,25 +161,27 @@ impl<'a> Asked<'a> {
         idle
     }
 
-    pub fn drain(&mut self, drain: Drain) {
+    /// What the drain sends, which is in its output from the start on.
+    pub fn drain(&mut self, drain: Drain) -> Vec<Sent> {
         self.met.drains_while_owed += usize::from(self.model.owed.is_some());
         let mut bytes = BYTES;
         let output = &mut bytes[..drain.length];
         let drained = self.model.drain(output, drain.start, drain.limit);
-        self.note(drain, drained);
-        let (refusal, sends) = match drained {
-            Ok(sends) => (0, sends as u8),
-            Err(refusal) => (refusal, 0),
+        let (refusal, sent) = match drained {
+            Ok(sent) => (0, sent),
+            Err(refusal) => (refusal, vec![]),
         };
-        let answer = [&[refusal, sends], &bytes[..]].concat();
+        self.note(drain, refusal, sent.len());
+        let answer = [&[refusal, sent.len() as u8], &bytes[..]].concat();
         self.to.add(0x48, &drain.query(), &answer);
+        sent
     }
 
-    fn note(&mut self, drain: Drain, drained: Result<usize, u8>) {
-        let Ok(sends) = drained else {
+    fn note(&mut self, drain: Drain, refusal: u8, sends: usize) {
+        if refusal == PAST_END {
             self.met.drains_past_end += 1;
             return;
-        };
+        }
         self.met.drains_at_limit += usize::from(sends == drain.limit);
         self.met.drains_out_of_room += usize::from(sends == drain.room());
         let stopped_early = sends < drain.limit.min(drain.room());

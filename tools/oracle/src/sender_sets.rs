@@ -78,7 +78,7 @@ const LARGE: [usize; 7] = [
     usize::MAX,
 ];
 
-fn any_drain(random: &mut Random) -> Drain {
+pub fn any_drain(random: &mut Random) -> Drain {
     let length = random.below(1 + LONGEST_OUTPUT as u32);
     let start = random.below(2 + length);
     let mut drain = Drain {
@@ -370,7 +370,7 @@ pub fn sample(to: &mut Transcript) {
             asked.push(code);
         }
         for pair in pairs {
-            assert_eq!(asked.send(), pair, "01 says so");
+            assert_eq!(asked.send().pair, pair, "01 says so");
         }
         asked.look();
         assert!(asked.model.is_idle());

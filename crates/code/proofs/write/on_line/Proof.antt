@@ -2,6 +2,7 @@
 -- Assumes nothing.
 use borrow.Author.Needs.{needs}
 use Rattle.code.proofs.write.on_line.Statement.{statement}
+use Rattle.code.specs.Write.{onLine}
 use Rattle.code.proofs.write.on_line.Tie as tie
 
 with-field-requires : tie.Need-with-field-requires
@@ -17,6 +18,7 @@ add-parity-requires-2 : tie.Need-add-parity-requires-2
 add-parity-requires-2 c κs = search needs
 
 returns : tie.Need-returns
+unfolding onLine
 returns c = simp (c .before .add-parity .ensures, c .add-parity2 .ensures, c .before .before .with-channel .ensures, c .before .before .before .with-field .ensures)
 
 pub on-line-spec : {M : Type 1} → statement M

@@ -3,7 +3,7 @@
 use mathlib.Core.Path.{ap, sym, _∙_}
 use native.Mathlib.Omega.{arith}
 use Rattle.code.proofs.Numbers.{command-back, tab-back}
-use Rattle.code.specs.Write.{rowBytesOutcome}
+use Rattle.code.specs.Write.{controlBytes, rowBytesOutcome}
 use Rattle.code.specs.declared.control.Control.the-variants as control
 use Rattle.queue.proofs.Verdicts.{as-tested, row-inside, row-outside}
 use borrow.Author.Needs.{needs}
@@ -89,15 +89,19 @@ number-unknown-requires : tie.Need-number-unknown-requires
 number-unknown-requires c κs = search needs
 
 returns : tie.Need-returns
+unfolding controlBytes
 returns c = rw (c .before .before .before .control .given .1) (as-tested _ (control.MidRow _) _ (simp (c .bytes-number .ensures, c .before .bytes .ensures)))
 
 returns-2 : tie.Need-returns-2
+unfolding controlBytes
 returns-2 c = rw (c .before .before .before .control2 .given .1) (as-tested _ (control.Symbol _) _ (simp (c .bytes-number2 .ensures, c .before .bytes2 .ensures)))
 
 returns-3 : tie.Need-returns-3
+unfolding controlBytes
 returns-3 c = rw (c .before .before .before .control3 .given .1) (as-tested _ (control.Command _) _ (simp (c .bytes-number3 .ensures, c .before .number .ensures)))
 
 returns-4 : tie.Need-returns-4
+unfolding controlBytes
 returns-4 c = rw (c .before .before .before .control4 .given .1) (as-tested _ (control.Tab _) _ (simp (c .bytes-number4 .ensures, c .before .number2 .ensures)))
 
 returns-5 : tie.Need-returns-5

@@ -2,6 +2,7 @@
 -- Assumes nothing.
 use borrow.Author.Needs.{needs}
 use Rattle.receiver.proofs.heard.event_of.Statement.{statement}
+use Rattle.receiver.specs.Heard.{eventOf}
 use Rattle.receiver.proofs.heard.event_of.Tie as tie
 
 enum-known-control : tie.Need-enum-known-control
@@ -32,21 +33,27 @@ enum-told : tie.Need-enum-told
 enum-told c = search needs
 
 returns : tie.Need-returns
+unfolding eventOf
 returns c = rw (c .before .control .given .1)
 
 returns-2 : tie.Need-returns-2
+unfolding eventOf
 returns-2 c = rw (c .before .before .control2 .given .1) (c .symbol-event .ensures)
 
 returns-3 : tie.Need-returns-3
+unfolding eventOf
 returns-3 c = rw (c .before .before .control3 .given .1) (c .command-event .ensures)
 
 returns-4 : tie.Need-returns-4
+unfolding eventOf
 returns-4 c = rw (c .before .before .control4 .given .1, c .number .ensures)
 
 returns-5 : tie.Need-returns-5
+unfolding eventOf
 returns-5 c = rw (c .before .control5 .given .1)
 
 returns-6 : tie.Need-returns-6
+unfolding eventOf
 returns-6 c = rw (c .enum-told .given .1)
 
 pub event-of-spec : {M : Type 1} → statement M

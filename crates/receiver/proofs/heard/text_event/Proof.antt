@@ -3,6 +3,7 @@
 use borrow.Author.Needs.{needs}
 use Rattle.receiver.proofs.Codes.{character-back}
 use Rattle.receiver.proofs.heard.text_event.Statement.{statement}
+use Rattle.receiver.specs.Heard.{textEvent}
 use Rattle.receiver.proofs.heard.text_event.Tie as tie
 
 char-requires : tie.Need-char-requires
@@ -24,12 +25,15 @@ enum-told-4 : tie.Need-enum-told-4
 enum-told-4 c = search needs
 
 returns : tie.Need-returns
+unfolding textEvent
 returns c = rw (← c .before .before .before .char .ensures, ← c .before .before .char2 .ensures, c .enum-told .given .1, character-back)
 
 returns-2 : tie.Need-returns-2
+unfolding textEvent
 returns-2 c = rw (← c .before .before .before .before .before .char .ensures, ← c .before .before .before .before .char2 .ensures, c .before .before .enum-told2 .given .1, c .enum-told3 .given .1)
 
 returns-3 : tie.Need-returns-3
+unfolding textEvent
 returns-3 c = rw (← c .before .before .before .before .before .char .ensures, ← c .before .before .before .before .char2 .ensures, c .before .before .enum-told2 .given .1, c .enum-told4 .given .1)
 
 pub text-event-spec : {M : Type 1} → statement M

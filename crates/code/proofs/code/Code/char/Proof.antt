@@ -2,6 +2,7 @@
 -- Assumes nothing.
 use borrow.Author.Needs.{needs}
 use Rattle.code.proofs.code.Code.char.Statement.{statement}
+use Rattle.code.specs.Code.{charOf}
 use Rattle.code.proofs.code.Code.char.Tie as tie
 
 enum-told : tie.Need-enum-told
@@ -23,15 +24,19 @@ enum-told-2 : tie.Need-enum-told-2
 enum-told-2 c = search needs
 
 returns : tie.Need-returns
+unfolding charOf
 returns c = search needs
 
 returns-2 : tie.Need-returns-2
+unfolding charOf
 returns-2 c = search needs
 
 returns-3 : tie.Need-returns-3
+unfolding charOf
 returns-3 c = rw (c .before .before .self2 .given .1) (c .char2 .ensures)
 
 returns-4 : tie.Need-returns-4
+unfolding charOf
 returns-4 c = search needs
 
 pub char-spec : {M : Type 1} → statement M

@@ -8,6 +8,7 @@ use native.Mathlib.Omega.{arith}
 use Rattle.code.proofs.Numbers.{command-back, tab-back}
 use Rattle.code.specs.Outcome.{answer}
 use Rattle.code.proofs.control.Control.bytes.Statement.{statement}
+use Rattle.code.specs.Write.{controlBytes}
 use Rattle.code.proofs.control.Control.bytes.Tie as tie
 
 enum-known-self : tie.Need-enum-known-self
@@ -50,30 +51,39 @@ enum-known-self-6 : tie.Need-enum-known-self-6
 enum-known-self-6 c = search needs
 
 returns : tie.Need-returns
+unfolding controlBytes
 returns c = rw (c .before .before .self6 .given .1) (simp (le-ltb _ _ (c .if2 .taken)))
 
 returns-2 : tie.Need-returns-2
+unfolding controlBytes
 returns-2 c = rw (c .before .before .before .self6 .given .1) (simp (lt-ltb _ _ (c .before .if2 .left), le-ltb _ _ (c .if3 .taken)))
 
 returns-3 : tie.Need-returns-3
+unfolding controlBytes
 returns-3 c = rw (c .before .before .self .given .1) (ap answer (c .bytes .ensures))
 
 returns-4 : tie.Need-returns-4
+unfolding controlBytes
 returns-4 c = rw (c .before .before .self2 .given .1) (ap answer (c .bytes2 .ensures))
 
 returns-5 : tie.Need-returns-5
+unfolding controlBytes
 returns-5 c = rw (c .before .before .self3 .given .1, c .number .ensures)
 
 returns-6 : tie.Need-returns-6
+unfolding controlBytes
 returns-6 c = rw (c .before .before .self4 .given .1, c .number2 .ensures)
 
 returns-7 : tie.Need-returns-7
+unfolding controlBytes
 returns-7 c = rw (c .before .before .before .self5 .given .1) (simp (c .bytes-in-row .ensures, le-leb _ 14 (le-of-suc-le-suc (c .before .if1 .taken))))
 
 returns-8 : tie.Need-returns-8
+unfolding controlBytes
 returns-8 c = rw (c .before .before .self5 .given .1) (simp (lt-leb _ 14 (c .if1 .left)))
 
 returns-9 : tie.Need-returns-9
+unfolding controlBytes
 returns-9 c = rw (c .before .before .before .self6 .given .1) (simp (lt-ltb _ _ (c .before .if2 .left), lt-ltb _ _ (c .if3 .left)))
 
 pub bytes-spec : {M : Type 1} → statement M

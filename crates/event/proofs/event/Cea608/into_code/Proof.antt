@@ -2,6 +2,7 @@
 -- Assumes nothing.
 use borrow.Author.Needs.{needs}
 use Rattle.event.proofs.event.Cea608.into_code.Statement.{statement}
+use Rattle.event.specs.IntoCode.{codesOf}
 use Rattle.event.proofs.event.Cea608.into_code.Tie as tie
 
 enum-known-self : tie.Need-enum-known-self
@@ -74,36 +75,47 @@ control-alone-requires : tie.Need-control-alone-requires
 control-alone-requires c κs = search needs
 
 returns : tie.Need-returns
+unfolding codesOf
 returns c = rw (c .before .before .self .given .1) (c .into-code .ensures)
 
 returns-2 : tie.Need-returns-2
+unfolding codesOf
 returns-2 c = rw (c .before .before .before .self2 .given .1) (rw (c .before .command .ensures) at (c .command-alone .ensures))
 
 returns-3 : tie.Need-returns-3
+unfolding codesOf
 returns-3 c = rw (c .before .before .self3 .given .1) (c .command-alone2 .ensures)
 
 returns-4 : tie.Need-returns-4
+unfolding codesOf
 returns-4 c = rw (c .before .before .self4 .given .1) (c .command-alone3 .ensures)
 
 returns-5 : tie.Need-returns-5
+unfolding codesOf
 returns-5 c = rw (c .before .before .self5 .given .1) (c .command-alone4 .ensures)
 
 returns-6 : tie.Need-returns-6
+unfolding codesOf
 returns-6 c = rw (c .before .before .self6 .given .1) (c .command-alone5 .ensures)
 
 returns-7 : tie.Need-returns-7
+unfolding codesOf
 returns-7 c = rw (c .before .before .self7 .given .1) (c .command-alone6 .ensures)
 
 returns-8 : tie.Need-returns-8
+unfolding codesOf
 returns-8 c = rw (c .before .before .self8 .given .1) (c .tab-alone .ensures)
 
 returns-9 : tie.Need-returns-9
+unfolding codesOf
 returns-9 c = rw (c .before .before .self9 .given .1) (c .command-alone7 .ensures)
 
 returns-10 : tie.Need-returns-10
+unfolding codesOf
 returns-10 c = rw (c .before .before .self10 .given .1) (c .preamble-alone .ensures)
 
 returns-11 : tie.Need-returns-11
+unfolding codesOf
 returns-11 c = rw (c .before .before .self11 .given .1) (c .control-alone .ensures)
 
 pub into-code-spec : {M : Type 1} → statement M

@@ -55,51 +55,67 @@ enum-told-16 : tie.Need-enum-told-16
 enum-told-16 c = search needs
 
 returns : tie.Need-returns
+unfolding modeOf
 returns c = sym (ap modeOf (c .enum-told .given .1))
 
 returns-2 : tie.Need-returns-2
+unfolding modeOf
 returns-2 c = search needs
 
 returns-3 : tie.Need-returns-3
+unfolding modeOf
 returns-3 c = search needs
 
 returns-4 : tie.Need-returns-4
+unfolding modeOf
 returns-4 c = search needs
 
 returns-5 : tie.Need-returns-5
+unfolding modeOf
 returns-5 c = search needs
 
 returns-6 : tie.Need-returns-6
+unfolding modeOf
 returns-6 c = sym (ap modeOf (c .enum-told6 .given .1))
 
 returns-7 : tie.Need-returns-7
+unfolding modeOf
 returns-7 c = sym (ap modeOf (c .enum-told7 .given .1))
 
 returns-8 : tie.Need-returns-8
+unfolding modeOf
 returns-8 c = sym (ap modeOf (c .enum-told8 .given .1))
 
 returns-9 : tie.Need-returns-9
+unfolding modeOf
 returns-9 c = search needs
 
 returns-10 : tie.Need-returns-10
+unfolding modeOf
 returns-10 c = sym (ap modeOf (c .enum-told10 .given .1))
 
 returns-11 : tie.Need-returns-11
+unfolding modeOf
 returns-11 c = search needs
 
 returns-12 : tie.Need-returns-12
+unfolding modeOf
 returns-12 c = search needs
 
 returns-13 : tie.Need-returns-13
+unfolding modeOf
 returns-13 c = search needs
 
 returns-14 : tie.Need-returns-14
+unfolding modeOf
 returns-14 c = search needs
 
 returns-15 : tie.Need-returns-15
+unfolding modeOf
 returns-15 c = search needs
 
 returns-16 : tie.Need-returns-16
+unfolding modeOf
 returns-16 c = search needs
 
 pub from-command-spec : {M : Type 1} → statement M

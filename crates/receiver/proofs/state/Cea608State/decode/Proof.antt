@@ -9,7 +9,7 @@ use Rattle.code.proofs.code.Code.{the-type}
 use Rattle.code.specs.declared.code.Code.{Code}
 use Rattle.code.specs.declared.code.Code.the-variants as code
 use Rattle.code.specs.declared.pair.Pair.{Pair}
-use Rattle.receiver.specs.Receiver.{heardCodes, heardText}
+use Rattle.receiver.specs.Receiver.{heardCodes, heardText, step}
 use Rattle.receiver.specs.declared.state.Cea608State.{Cea608State}
 use Rattle.receiver.proofs.state.Cea608State.decode.Statement.{statement}
 use Rattle.receiver.proofs.state.Cea608State.decode.Tie as tie
@@ -31,6 +31,7 @@ enum-told : tie.Need-enum-told
 enum-told c = search needs
 
 returns : tie.Need-returns
+unfolding step
 returns c = rw (← c .before .before .from-data .ensures, c .enum-told .given .1)
 
 enum-known-first-2 : tie.Need-enum-known-first-2
@@ -40,6 +41,7 @@ text-requires : tie.Need-text-requires
 text-requires c κs = search needs
 
 returns-2 : tie.Need-returns-2
+unfolding step
 returns-2 c =
     let begun = c .before .before .before .before .before in
     rw (← begun .from-data .ensures, c .before .before .before .first .given .1)
@@ -49,6 +51,7 @@ command-requires : tie.Need-command-requires
 command-requires c κs = search needs
 
 returns-3 : tie.Need-returns-3
+unfolding step
 returns-3 c = rw (← c .before .before .before .before .before .before .before .from-data .ensures, c .before .before .before .before .before .first .given .1, c .before .before .first2 .given .1) (c .command .ensures)
 
 pub decode-spec : {M : Type 1} → statement M
