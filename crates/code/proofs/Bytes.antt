@@ -1,21 +1,20 @@
 -- The bytes of symbols and preambles stay below 0x80 where a column, or a style and its underline, is added to them. The
 -- code points of characters, as the code's one table has them.
 -- Assumes nothing.
-use mathlib.Core.Bool.{Bool, true, false}
+use mathlib.Core.Bool.{true}
 use mathlib.Core.Option.{none, some}
 use mathlib.Core.Path.{_≡_, refl, ap, sym}
 use Prim.Native.Nat.{ℕ, _+_, _*_, _≤_, _<_}
 use native.Mathlib.Nat.{add-assoc, add-zero}
-use borrow.Author.Tests.{leb-true, ltb-false, ltb-true}
-use lib.Dec.{leb, lit<, ltb}
-use lib.ListN.{List·getD-eq-default, getD}
+use borrow.Author.Tests.{leb-true}
+use lib.Dec.{leb, lit<}
+use lib.ListN.{getD}
 use Rattle.code.proofs.Agree.{agree}
 use Rattle.code.specs.Characters.{standard, symbols}
 use Rattle.code.specs.Pair.{pair, plus}
-use Rattle.code.specs.Preamble.{rowPrefix, rowPrefixes}
+use Rattle.code.specs.Preamble.{rowPrefix}
 use Rattle.code.specs.Symbol.{symbolBase}
 use Rattle.code.specs.Tables.{allPoints, entryPoint}
-use Rattle.code.specs.declared.pair.Pair.{Pair}
 use Rattle.code.specs.declared.symbol.SymbolRow.{SymbolRow}
 use Rattle.code.specs.declared.symbol.SymbolRow.the-variants.{Special, Spanish, French, Portuguese, German}
 
@@ -26,16 +25,9 @@ base-small French = lit< tt
 base-small Portuguese = lit< tt
 base-small German = lit< tt
 
--- above row 14 there is no prefix
-pub no-prefix : (row : ℕ) → 15 ≤ row → rowPrefix row ≡ pair 0 0
-no-prefix row outside = List·getD-eq-default rowPrefixes (pair 0 0) outside
-
-small-by : (row : ℕ) (t : Bool) → ltb row 15 ≡ t → leb (rowPrefix row .1) 96 ≡ true
-small-by row true e = agree (λ (x : ℕ). leb (rowPrefix x .1) 96) (λ (x : ℕ). true) 15 refl row (ltb-true row 15 e)
-small-by row false e = ap (λ (p : Pair). leb (p .1) 96) (no-prefix row (ltb-false row 15 e))
-
-pub prefix-small : (row : ℕ) → rowPrefix row .1 ≤ 96
-prefix-small row = leb-true (rowPrefix row .1) 96 (small-by row (ltb row 15) refl)
+pub prefix-small : (row : ℕ) → row < 15 → rowPrefix row .1 ≤ 96
+prefix-small row inside =
+    leb-true (rowPrefix row .1) 96 (agree (λ (x : ℕ). leb (rowPrefix x .1) 96) (λ (x : ℕ). true) 15 refl row inside)
 
 -- a preamble's bytes, with and without the underline
 pub underlined-row : (row s : ℕ) → pair (rowPrefix row .0) (rowPrefix row .1 + 2 * s + 1) ≡ plus (rowPrefix row) (2 * s + 1)

@@ -266,13 +266,11 @@ pub(crate) fn find_point(table: &[u32], point: u32) -> Found
     Found::Absent
 }
 
-// The prefix of a row. A row above 14 has none.
+// The prefix of a row.
 pub(crate) fn row_prefix(row: u8) -> Pair
+    requires { ⌜ row < 15 ⌝ }
     ensures { λ r. ⌜ r ≡ rowPrefix row ⌝ }
 {
-    if 15 <= row {
-        return Pair(0, 0);
-    }
     let table = ROW_PREFIXES;
     table[row as usize]
 }

@@ -266,6 +266,7 @@ impl PreambleAddressCode {
 
     // The row's prefix, and in the second byte twice the style and the underline.
     pub(crate) fn bytes_in_row(self) -> Pair
+        requires { ⌜ self .row < 15 ⌝ }
         ensures { λ r. ⌜ r ≡ preambleBytes self ⌝ }
     {
         let prefix = row_prefix(self.row);

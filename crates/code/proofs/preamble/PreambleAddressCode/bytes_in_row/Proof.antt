@@ -22,14 +22,16 @@ mul-t7 c = omega (arith, style-back (c .before .before .before .args .self .ty) 
 add-t8 : tie.Need-add-t8
 add-t8 c =
     let p = c .before .before .before .before .args .self in
+    let inside = c .before .before .before .before .pre in
     let second = ap (λ (x : Pair). x .1) (c .before .before .before .row-prefix .ensures) in
-    omega (arith, style-back (p .ty) .0, prefix-small (p .row), second)
+    omega (arith, style-back (p .ty) .0, prefix-small (p .row) inside, second)
 
 add-t9 : tie.Need-add-t9
 add-t9 c =
     let p = c .before .before .before .before .args .self in
+    let inside = c .before .before .before .before .pre in
     let second = ap (λ (x : Pair). x .1) (c .before .before .before .row-prefix .ensures) in
-    omega (arith, style-back (p .ty) .0, prefix-small (p .row), second)
+    omega (arith, style-back (p .ty) .0, prefix-small (p .row) inside, second)
 
 mul-t10 : tie.Need-mul-t10
 mul-t10 c = omega (arith, style-back (c .before .before .before .args .self .ty) .0)
@@ -37,8 +39,9 @@ mul-t10 c = omega (arith, style-back (c .before .before .before .args .self .ty)
 add-t11 : tie.Need-add-t11
 add-t11 c =
     let p = c .before .before .before .before .args .self in
+    let inside = c .before .before .before .before .pre in
     let second = ap (λ (x : Pair). x .1) (c .before .before .before .row-prefix .ensures) in
-    omega (arith, style-back (p .ty) .0, prefix-small (p .row), second)
+    omega (arith, style-back (p .ty) .0, prefix-small (p .row) inside, second)
 
 returns : tie.Need-returns
 returns c =
