@@ -25,8 +25,8 @@ use Rattle.queue.specs.Queue.{admit, pairOf, pop}
 use Rattle.queue.specs.Queueable.{queueable}
 use Rattle.queue.specs.Ring.{popRing, pushRing}
 use Rattle.queue.specs.Ring as ring
-use Rattle.receiver.specs.Reading.{afterOnce, afterReadingOnce, answers, events, once, onceCodes, readOnce}
-use Rattle.receiver.specs.Receiver.{fieldAfter, fresh, heardText, state, step, Stepped, textFor}
+use Rattle.receiver.specs.Reading.{afterOnce, answers, events, once, readOnce}
+use Rattle.receiver.specs.Receiver.{afterReading, fieldAfter, forgotten, fresh, heardCodes, heardText, state, step, Stepped, textFor}
 use Rattle.receiver.specs.declared.state.Cea608State.{Cea608State}
 use Rattle.receiver.specs.declared.state.LastChannel.{LastChannel}
 use Rattle.receiver.specs.declared.state.LastPair.the-variants as last
@@ -61,18 +61,18 @@ module _ (s t : Cea608State) (p : Pair) (same : Same s t) where
     record { channel = same .channel; field = same .field },
   )
 
-  same-codes : (x y : Code) → SameSteps (onceCodes s p x y) (onceCodes t p x y)
+  same-codes : (x y : Code) → SameSteps (heardCodes (forgotten s) p x y) (heardCodes (forgotten t) p x y)
   same-codes (code.Control c) y = (refl, record { channel = refl; field = ap (fieldAfter (c .field)) (same .field) })
   same-codes code.Nul y = same-text code.Nul y
   same-codes (code.Letter l) y = same-text (code.Letter l) y
   same-codes (code.Unknown b) y = same-text (code.Unknown b) y
 
-  same-reading : (o : Outcome (Code × Code)) → SameSteps (afterReadingOnce s p o) (afterReadingOnce t p o)
+  same-reading : (o : Outcome (Code × Code)) → SameSteps (afterReading (forgotten s) p o) (afterReading (forgotten t) p o)
   same-reading (answer codes) = same-codes (codes .0) (codes .1)
-  same-reading (refused n) = (refl, same)
+  same-reading (refused n) = (refl, record { channel = same .channel; field = same .field })
 
   same-once : SameSteps (once s p) (once t p)
-  unfolding once
+  unfolding step
   same-once = same-reading (readPair (p .0) (p .1))
 
 -- read once, two streams give the same events, and the same channel and field at the end

@@ -20,7 +20,7 @@ use Rattle.agreement.proofs.FrameRate.{quiet-is-no-repeat}
 use Rattle.receiver.proofs.Step.{IsCommand, command-acts, command-once, even-is-refused-1, repeat-is-skipped, text-is-never-skipped, text-once}
 use Rattle.agreement.specs.FrameRate.{awaits}
 use Rattle.receiver.specs.Reading.{after, afterOnce, answers, events, once, readOnce}
-use Rattle.receiver.specs.Receiver.{acts, fieldAfter, heardText, isLast, state, step, textFor}
+use Rattle.receiver.specs.Receiver.{acts, fieldAfter, forgotten, heardText, isLast, step, textFor}
 use Rattle.receiver.specs.declared.state.Cea608State.{Cea608State}
 use Rattle.receiver.specs.declared.state.LastChannel.{LastChannel}
 use Rattle.receiver.specs.declared.state.LastPair.{LastPair}
@@ -102,10 +102,6 @@ module _ (p : Pair) (ps : List Pair) (odd : isOddPair p ≡ true) (go : Continue
   is-command : isCommandPair p ≡ true → IsCommand p heardCode
   is-command is = (code.Nul, read-as-command (p .0) (p .1) (parity .0) (parity .1) is)
 
-  -- the state that a skipped repeat leaves
-  abbrev skipped : Cea608State → Cea608State
-  skipped s = state last.Absent (s .«last_channel») (s .«last_received_field»)
-
   -- a command that acts for both leaves the same channel and field
   acted-same : (s t : Cea608State) → Same s t → Same (acts s p heardCode .1) (acts t p heardCode .1)
   acted-same s t same = record { channel = refl; field = ap (fieldAfter (heardCode .field)) (same .field) }
@@ -119,9 +115,9 @@ module _ (p : Pair) (ps : List Pair) (odd : isOddPair p ≡ true) (go : Continue
   -- after a first copy that acted: its repeat is skipped, or corrupted
   second-after-acting : (s t : Cea608State) (qs : List Pair) → isCommandPair p ≡ true → Same s t → s .«last_data» ≡ last.Was p → OneByOne none (p ∷ doubled ps) qs → Agrees s t qs ps
   second-after-acting s t qs is same holds (one.arrives {qs = qs′} rest) =
-      silent-in-front s t (skipped s) p qs′ ps
+      silent-in-front s t (forgotten s) p qs′ ps
       (repeat-is-skipped s p heardCode (is-command is) (ap (isLast p) holds ∙ last-is-last p))
-      (go none qs′ (skipped s) t rest refl (record { channel = same .channel; field = same .field }))
+      (go none qs′ (forgotten s) t rest refl (record { channel = same .channel; field = same .field }))
   second-after-acting s t qs is same holds (one.is-spoiled {q = q} {qs = qs′} c w even rest) =
       hit-in-front s t q qs′ ps even (go (some p) qs′ s t rest holds same)
 
@@ -143,8 +139,8 @@ module _ (p : Pair) (ps : List Pair) (odd : isOddPair p ≡ true) (go : Continue
   command-heard h qs s t true w is (one.arrives {qs = qs′} rest) ready same =
       let on = subst (λ (b : Bool). OneByOne (cond b h none) (p ∷ doubled ps) qs′) w rest in
       let again = repeat-is-told h (s .«last_data») p heardCode (is-command is) ready ∙ w in
-      silent-in-front s t (skipped s) p qs′ (p ∷ ps) (repeat-is-skipped s p heardCode (is-command is) again)
-      (second-acts h (skipped s) t qs′ is (record { channel = same .channel; field = same .field }) w refl on)
+      silent-in-front s t (forgotten s) p qs′ (p ∷ ps) (repeat-is-skipped s p heardCode (is-command is) again)
+      (second-acts h (forgotten s) t qs′ is (record { channel = same .channel; field = same .field }) w refl on)
   command-heard h qs s t hit w is (one.is-spoiled {q = q} {qs = qs′} c fine even rest) ready same =
       let other = repeat-is-told h (s .«last_data») p heardCode (is-command is) ready ∙ fine in
       hit-in-front s t q qs′ (p ∷ ps) even (second-acts (some p) s t qs′ is same (same-itself p) other rest)

@@ -30,7 +30,7 @@ use Rattle.queue.specs.Queue.{admit, pairOf, pop}
 use Rattle.queue.specs.Queueable.{queueable}
 use Rattle.queue.specs.Ring.{popRing, pushRing}
 use Rattle.queue.specs.Ring as ring
-use Rattle.receiver.specs.Reading.{answers, events, once, readOnce}
+use Rattle.receiver.specs.Reading.{answers, events, readOnce}
 use Rattle.receiver.specs.Receiver.{fresh, step}
 use Rattle.agreement.proofs.OneByOne.{one-by-one-is-a-line}
 use Rattle.agreement.specs.Agreement.{Agreement, Carried, EndsIdle, Line, isRefusal, queuePairs, sentBy}
@@ -77,7 +77,7 @@ unfolding ones onesIn writeCode inDomain queueable admit pairOf codeOf pop pushR
 what-it-is-made-of = refl
 
 pub what-is-meant : events (readOnce fresh (rollUp2 ∷ carriageReturn ∷ hi ∷ [])) ≡ modeEvent ∷ returnEvent ∷ hiEvent ∷ []
-unfolding readPair ones onesIn standard once eventOf textEvent modeOf charOf meaning commandOf
+unfolding readPair ones onesIn standard step eventOf textEvent modeOf charOf meaning commandOf
 what-is-meant = refl
 
 -- a copy of each command corrupted, the first of the one and the second of the other: all is decoded
@@ -152,5 +152,5 @@ a-stretch-of-four = (refl, refl)
 pub two-corrupted-of-four-lose-a-command :
     (events (readOnce fresh (carriageReturn ∷ carriageReturn ∷ [])) ≡ returnEvent ∷ returnEvent ∷ [])
     × (events (answers fresh (carriageReturn ∷ pair 0x14 0xAD ∷ pair 0x14 0xAD ∷ carriageReturn ∷ [])) ≡ returnEvent ∷ [])
-unfolding readPair ones onesIn step once eventOf meaning commandOf
+unfolding readPair ones onesIn step eventOf meaning commandOf
 two-corrupted-of-four-lose-a-command = (refl, refl)

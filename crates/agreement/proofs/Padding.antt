@@ -6,8 +6,8 @@ use Rattle.agreement.specs.Pairs.{padding}
 use Rattle.code.proofs.Written.{padding-read}
 use Rattle.code.specs.Outcome.{answer}
 use Rattle.code.specs.declared.code.Code.the-variants as code
-use Rattle.receiver.specs.Reading.{afterReadingOnce, once}
-use Rattle.receiver.specs.Receiver.{afterReading, state, step, textFor}
+use Rattle.receiver.specs.Reading.{once}
+use Rattle.receiver.specs.Receiver.{afterReading, forgotten, state, step, textFor}
 use Rattle.receiver.specs.declared.state.Cea608State.{Cea608State}
 use Rattle.receiver.specs.declared.state.LastChannel.{LastChannel}
 use Rattle.receiver.specs.declared.state.LastChannel.the-variants as channel
@@ -28,5 +28,4 @@ unfolding step
 padding-step s = ap (afterReading s padding) padding-read ∙ rw (no-text (s .«last_channel»))
 
 pub padding-once : (s : Cea608State) → once s padding ≡ (answer none, afterPadding s)
-unfolding once
-padding-once s = ap (afterReadingOnce s padding) padding-read ∙ rw (no-text (s .«last_channel»))
+padding-once s = padding-step (forgotten s)

@@ -13,22 +13,22 @@ use Rattle.code.specs.declared.control.ControlCode.{ControlCode}
 use Rattle.code.specs.declared.pair.Pair.{Pair}
 use Rattle.agreement.specs.FrameRate.{SetBy, Settled}
 use Rattle.receiver.proofs.Copies.{field-again}
-use Rattle.receiver.specs.Reading.{after, afterReadingOnce, once}
-use Rattle.receiver.specs.Receiver.{acts, afterReading, fresh, heardCodes, heardText, isLast, state, step}
+use Rattle.receiver.specs.Reading.{after}
+use Rattle.receiver.specs.Receiver.{acts, afterReading, forgotten, fresh, heardCodes, heardText, isLast, step}
 use Rattle.receiver.specs.declared.state.Cea608State.{Cea608State}
 use Rattle.receiver.specs.declared.state.LastPair.the-variants as last
 
 module _ (s : Cea608State) (p : Pair) where
   -- by what the pair is read as
-  set-by : (t : Cea608State) (o : Outcome (Code × Code)) → readPair (p .0) (p .1) ≡ o → afterReadingOnce t p o .1 .«last_channel» ≡ t .«last_channel» → afterReadingOnce t p o .1 .«last_received_field» ≡ t .«last_received_field» → SetBy (last.Was p) t
-  unfolding once
+  set-by : (t : Cea608State) (o : Outcome (Code × Code)) → readPair (p .0) (p .1) ≡ o → afterReading (forgotten t) p o .1 .«last_channel» ≡ t .«last_channel» → afterReading (forgotten t) p o .1 .«last_received_field» ≡ t .«last_received_field» → SetBy (last.Was p) t
+  unfolding step
   set-by t o e ch f = (
-    ap (λ (x : Outcome (Code × Code)). afterReadingOnce t p x .1 .«last_channel») e ∙ ch,
-    ap (λ (x : Outcome (Code × Code)). afterReadingOnce t p x .1 .«last_received_field») e ∙ f,
+    ap (λ (x : Outcome (Code × Code)). afterReading (forgotten t) p x .1 .«last_channel») e ∙ ch,
+    ap (λ (x : Outcome (Code × Code)). afterReading (forgotten t) p x .1 .«last_received_field») e ∙ f,
   )
 
   -- what was not refused leaves a settled state, whatever the state was before
-  settled-command : (t : Bool) (c : ControlCode) (y : Code) → readPair (p .0) (p .1) ≡ answer (code.Control c, y) → Settled (cond t (answer none, state last.Absent (s .«last_channel») (s .«last_received_field»)) (acts s p c) .1)
+  settled-command : (t : Bool) (c : ControlCode) (y : Code) → readPair (p .0) (p .1) ≡ answer (code.Control c, y) → Settled (cond t (answer none, forgotten s) (acts s p c) .1)
   settled-command true c y e = tt
   settled-command false c y e = set-by (acts s p c .1) (answer (code.Control c, y)) e refl (field-again (c .field) (s .«last_received_field»))
 

@@ -18,7 +18,7 @@ use Rattle.event.specs.declared.event.Cea608.{Cea608}
 use Rattle.receiver.proofs.Step.{command-acts, IsCommand, repeat-is-skipped, step-command}
 use Rattle.receiver.specs.Heard.{eventOf}
 use Rattle.receiver.specs.Reading.{answers, steps}
-use Rattle.receiver.specs.Receiver.{acts, fieldAfter, isLast, state, Stepped}
+use Rattle.receiver.specs.Receiver.{acts, fieldAfter, forgotten, isLast, Stepped}
 use Rattle.receiver.specs.declared.state.Cea608State.{Cea608State}
 use Rattle.receiver.specs.declared.state.LastField.{LastField}
 use Rattle.receiver.specs.declared.state.LastPair.the-variants as last
@@ -56,7 +56,7 @@ module _ (p : Pair) (c : ControlCode) (command : IsCommand p c) where
 
   -- a copy that is skipped: the state as it was, and no last pair
   abbrev pub skippedFrom : Cea608State → Stepped
-  skippedFrom s = (skipped, state last.Absent (s .«last_channel») (s .«last_received_field»))
+  skippedFrom s = (skipped, forgotten s)
 
   acts-again : (s : Cea608State) → acts (skippedFrom (acts s p c .1) .1) p c ≡ acts s p c
   acts-again s = rw (field-again (c .field) (s .«last_received_field»))

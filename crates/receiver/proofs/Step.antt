@@ -21,11 +21,10 @@ use Rattle.code.specs.declared.control.ControlCode.{ControlCode}
 use Rattle.code.specs.declared.pair.Pair.{Pair}
 use Rattle.code.specs.declared.symbol.Symbol.{Symbol}
 use Rattle.receiver.specs.Heard.{commandEvent, controlEvent, eventOf}
-use Rattle.receiver.specs.Reading.{afterReadingOnce, once, onceCodes}
-use Rattle.receiver.specs.Receiver.{acts, afterReading, heardCodes, heardCommand, heardText, isLast, state, step, Stepped}
+use Rattle.receiver.specs.Reading.{once}
+use Rattle.receiver.specs.Receiver.{acts, afterReading, forgotten, heardCodes, heardCommand, heardText, isLast, step, Stepped}
 use Rattle.receiver.specs.declared.state.Cea608State.{Cea608State}
 use Rattle.event.specs.Mode.{modeOf}
-use Rattle.receiver.specs.declared.state.LastPair.the-variants as last
 
 -- a pair that is read as a command
 abbrev pub IsCommand : Pair → ControlCode → Type 0
@@ -41,13 +40,12 @@ pub command-acts : (s : Cea608State) (p : Pair) (c : ControlCode) → IsCommand 
 command-acts s p c h other = step-command s p c h ∙ rw other
 
 -- and one that is gives no event, and changes nothing but the last pair, which is absent then
-pub repeat-is-skipped : (s : Cea608State) (p : Pair) (c : ControlCode) → IsCommand p c → isLast p (s .«last_data») ≡ true → step s p ≡ (answer none, state last.Absent (s .«last_channel») (s .«last_received_field»))
+pub repeat-is-skipped : (s : Cea608State) (p : Pair) (c : ControlCode) → IsCommand p c → isLast p (s .«last_data») ≡ true → step s p ≡ (answer none, forgotten s)
 repeat-is-skipped s p c h same = step-command s p c h ∙ rw same
 
 -- where it is not the last pair, `once` is `step`
 pub once-where-no-repeat : (s : Cea608State) (p : Pair) (c : ControlCode) → IsCommand p c → isLast p (s .«last_data») ≡ false → once s p ≡ step s p
-unfolding once
-once-where-no-repeat s p c h other = ap (afterReadingOnce s p) (h .1) ∙ sym (command-acts s p c h other)
+once-where-no-repeat s p c h other = step-command (forgotten s) p c h ∙ sym (command-acts s p c h other)
 
 -- a pair that cannot be read is refused by the reading's number
 pub hit-is-refused : (s : Cea608State) (p : Pair) (n : ℕ) → readPair (p .0) (p .1) ≡ refused n → step s p ≡ (refused n, s)
@@ -104,20 +102,10 @@ text-is-never-skipped s p odd0 odd1 text =
 
 -- read once, a command acts and text is text
 pub command-once : (s : Cea608State) (p : Pair) (c : ControlCode) → IsCommand p c → once s p ≡ acts s p c
-unfolding once
-command-once s p c h = ap (afterReadingOnce s p) (h .1)
-
-no-command-once : (s : Cea608State) (p : Pair) (x y : Code) → ((c : ControlCode) → x ≡ code.Control c → ⊥) → onceCodes s p x y ≡ heardText s p x y
-no-command-once s p (code.Control c) y h = absurd (h c refl)
-no-command-once s p code.Nul y h = refl
-no-command-once s p (code.Letter l) y h = refl
-no-command-once s p (code.Unknown b) y h = refl
+command-once s p c h = step-command (forgotten s) p c h
 
 pub text-once : (s : Cea608State) (p : Pair) → isOdd (p .0) ≡ true → isOdd (p .1) ≡ true → isCommand (stripped (p .0)) ≡ false → once s p ≡ heardText s p (single (stripped (p .0))) (single (stripped (p .1)))
-unfolding once
-text-once s p odd0 odd1 text =
-    ap (afterReadingOnce s p) (read-as-text (p .0) (p .1) odd0 odd1 text)
-    ∙ no-command-once s p (single (stripped (p .0))) (single (stripped (p .1))) (single-is-no-command (stripped (p .0)))
+text-once s p = text-is-never-skipped (forgotten s) p
 
 -- alarms, flash and the text commands, `Unknown`, and a symbol without a character have no event
 pub commands-without-event : (ch : Channel) → map (commandEvent ch) (AlarmOff ∷ AlarmOn ∷ FlashOn ∷ TextRestart ∷ ResumeTextDisplay ∷ []) ≡ none ∷ none ∷ none ∷ none ∷ none ∷ []

@@ -51,10 +51,13 @@ Stepped = Outcome (Option Cea608) × Cea608State
 abbrev pub acts : Cea608State → Pair → ControlCode → Stepped
 acts s p c = (answer (eventOf c), state (last.Was p) (channel.Known (c .channel)) (fieldAfter (c .field) (s .«last_received_field»)))
 
+-- the state with the last pair absent
+abbrev pub forgotten : Cea608State → Cea608State
+forgotten s = state last.Absent (s .«last_channel») (s .«last_received_field»)
+
 -- one that repeats the last pair gives no event, and the last pair is absent then
 abbrev pub heardCommand : Cea608State → Pair → ControlCode → Stepped
-heardCommand s p c =
-    cond (isLast p (s .«last_data»)) (answer none, state last.Absent (s .«last_channel») (s .«last_received_field»)) (acts s p c)
+heardCommand s p c = cond (isLast p (s .«last_data»)) (answer none, forgotten s) (acts s p c)
 
 -- any other pair is text for the last channel, once one is known
 abbrev pub textFor : LastChannel → Code → Code → Option Cea608
