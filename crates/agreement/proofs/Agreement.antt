@@ -36,7 +36,7 @@ odd-pairs-agree ps arrived odd line =
       same-events = heard .same-events;
       same-channel = heard .ends-same .channel;
       same-field = heard .ends-same .field;
-      refuses-the-spoiled = the-corrupted-are-refused (doubled ps) arrived fresh sent-odd (line .pairs);
+      refuses-the-corrupted = the-corrupted-are-refused (doubled ps) arrived fresh sent-odd (line .pairs);
       refuses-by-1 = refusals-are-by-1 arrived fresh;
     }
 

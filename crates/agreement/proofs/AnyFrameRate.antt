@@ -12,7 +12,7 @@ use Rattle.code.specs.Characters.{standard}
 use Rattle.code.specs.Letter.{letterAt}
 use Rattle.code.specs.Outcome.{Outcome, answer, refused}
 use Rattle.code.specs.Pair.{samePair}
-use Rattle.code.specs.Read.{commandOf, meaning, readPair}
+use Rattle.code.specs.Read.{controlCodeOf, meaning, readPair}
 use Rattle.code.specs.Pair.{pair}
 use Rattle.code.specs.Write.{controlBytes, inDomain, onLine, writeCode}
 use Rattle.code.specs.declared.code.Code.{Code}
@@ -147,7 +147,7 @@ at-any-frame-rate calls padded arrived same line =
       same-events = agrees .same-events ∙ alike .0;
       same-channel = agrees .same-channel ∙ alike .1 .channel;
       same-field = agrees .same-field ∙ alike .1 .field;
-      refuses-the-spoiled = agrees .refuses-the-spoiled;
+      refuses-the-corrupted = agrees .refuses-the-corrupted;
       refuses-by-1 = agrees .refuses-by-1;
     }
 
@@ -176,10 +176,10 @@ pub one-copy-corrupted-is-allowed : Line (doubled paddedCaption) oneCopyCorrupte
 unfolding ones onesIn
 one-copy-corrupted-is-allowed =
     one-by-one-is-a-line (doubled paddedCaption) oneCopyCorrupted (refl, (refl, (refl, (refl, tt))))
-    (one.arrives (one.is-spoiled refl refl refl (one.arrives (one.arrives one.ends))))
+    (one.arrives (one.is-corrupted refl refl refl (one.arrives (one.arrives one.ends))))
 
 pub one-copy-corrupted-is-decoded : events (answers fresh oneCopyCorrupted) ≡ returnEvent ∷ hiEvent ∷ []
-unfolding readPair ones onesIn standard step eventOf textEvent charOf meaning commandOf
+unfolding readPair ones onesIn standard step eventOf textEvent charOf meaning controlCodeOf
 one-copy-corrupted-is-decoded = refl
 
 pub one-copy-corrupted-agrees : Agreement (queuePairs caption freshSender) (doubled paddedCaption) oneCopyCorrupted

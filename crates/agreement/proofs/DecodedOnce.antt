@@ -10,7 +10,7 @@ use Rattle.code.proofs.Both.{both-true}
 use Rattle.code.proofs.Written.{read-as-command}
 use Rattle.code.specs.Outcome.{Outcome, answer, refused}
 use Rattle.code.specs.Parity.{isOdd, stripped}
-use Rattle.code.specs.Read.{commandOf, isCommandPair, isOddPair, single}
+use Rattle.code.specs.Read.{controlCodeOf, isCommandPair, isOddPair, single}
 use Rattle.code.specs.declared.code.Code.the-variants as code
 use Rattle.code.specs.declared.control.ControlCode.{ControlCode}
 use Rattle.code.specs.declared.pair.Pair.{Pair}
@@ -27,7 +27,7 @@ use Rattle.receiver.specs.declared.state.LastPair.{LastPair}
 use Rattle.receiver.specs.declared.state.LastPair.the-variants as last
 use Rattle.agreement.proofs.OneByOne.{same-is-equal, same-itself}
 use Rattle.agreement.specs.Doubled.{doubled}
-use Rattle.agreement.specs.OneByOne.{AllOdd, OneByOne, goesOn, wasSpoiled}
+use Rattle.agreement.specs.OneByOne.{AllOdd, OneByOne, goesOn, wasCorrupted}
 use Rattle.agreement.specs.OneByOne as one
 
 -- two states with the same channel and field, whatever their last pairs
@@ -46,7 +46,7 @@ Ready none l = awaits l ≡ false
 Ready (some p) l = l ≡ last.Was p
 
 -- so it takes a copy for a repeat exactly where one was corrupted before in the stretch
-repeat-is-told : (h : Option Pair) (l : LastPair) (p : Pair) (c : ControlCode) → IsCommand p c → Ready h l → isLast p l ≡ wasSpoiled h p
+repeat-is-told : (h : Option Pair) (l : LastPair) (p : Pair) (c : ControlCode) → IsCommand p c → Ready h l → isLast p l ≡ wasCorrupted h p
 repeat-is-told none l p c k r = quiet-is-no-repeat p c (k .0) l (k .1) r
 repeat-is-told (some q) l p c k r = ap (isLast p) r
 
@@ -65,8 +65,8 @@ heard-in-front s t s′ t′ o q p qs ps one other a = record {
 silent-in-front : (s t s′ : Cea608State) (q : Pair) (qs ps : List Pair) → step s q ≡ (answer none, s′) → Agrees s′ t qs ps → Agrees s t (q ∷ qs) ps
 silent-in-front s t s′ q qs ps one a = record { same-events = rw one (a .same-events); ends-same = rw one (a .ends-same) }
 
-hit-in-front : (s t : Cea608State) (q : Pair) (qs ps : List Pair) → isOddPair q ≡ false → Agrees s t qs ps → Agrees s t (q ∷ qs) ps
-hit-in-front s t q qs ps even a =
+corrupted-in-front : (s t : Cea608State) (q : Pair) (qs ps : List Pair) → isOddPair q ≡ false → Agrees s t qs ps → Agrees s t (q ∷ qs) ps
+corrupted-in-front s t q qs ps even a =
     let one = even-is-refused-1 s q even in
     record { same-events = rw one (a .same-events); ends-same = rw one (a .ends-same) }
 
@@ -80,13 +80,13 @@ module _ (p : Pair) (ps : List Pair) (odd : isOddPair p ≡ true) (go : Continue
   parity = both-true (isOdd (p .0)) (isOdd (p .1)) odd
 
   -- text arrives as it was sent, and is read by both; the receiver holds it then
-  holds-text : (h : Option Pair) (t : Bool) → wasSpoiled h p ≡ t → isCommandPair p ≡ false → Ready (cond t h none) (last.Was p)
+  holds-text : (h : Option Pair) (t : Bool) → wasCorrupted h p ≡ t → isCommandPair p ≡ false → Ready (cond t h none) (last.Was p)
   holds-text h false w is = is
   holds-text none true w is = absurd (true≢false (sym w))
   holds-text (some q) true w is = ap last.Was (sym (same-is-equal q p w))
 
   text-heard : (h : Option Pair) (qs : List Pair) (s t : Cea608State) → isCommandPair p ≡ false → OneByOne h (p ∷ doubled ps) qs → Same s t → Agrees s t qs (p ∷ ps)
-  text-heard h qs s t is (one.is-spoiled c w even rest) same = absurd (true≢false (sym c ∙ is))
+  text-heard h qs s t is (one.is-corrupted c w even rest) same = absurd (true≢false (sym c ∙ is))
   text-heard h qs s t is (one.arrives {qs = qs′} rest) same =
       let x = single (stripped (p .0)) in
       let y = single (stripped (p .1)) in
@@ -94,10 +94,10 @@ module _ (p : Pair) (ps : List Pair) (odd : isOddPair p ≡ true) (go : Continue
       text-once t p (parity .0) (parity .1) is
       ∙ ap {B = Outcome (Option Cea608) × Cea608State} (λ (ch : LastChannel). (answer (textFor ch x y), heardText t p x y .1)) (sym (same .channel)) in
       heard-in-front s t _ _ _ p p qs′ ps (text-is-never-skipped s p (parity .0) (parity .1) is) told
-      (go (goesOn h p) qs′ _ _ rest (holds-text h (wasSpoiled h p) refl is) (record { channel = same .channel; field = same .field }))
+      (go (goesOn h p) qs′ _ _ rest (holds-text h (wasCorrupted h p) refl is) (record { channel = same .channel; field = same .field }))
 
   abbrev heardCode : ControlCode
-  heardCode = commandOf (stripped (p .0)) (stripped (p .1))
+  heardCode = controlCodeOf (stripped (p .0)) (stripped (p .1))
 
   is-command : isCommandPair p ≡ true → IsCommand p heardCode
   is-command is = (code.Nul, read-as-command (p .0) (p .1) (parity .0) (parity .1) is)
@@ -118,20 +118,20 @@ module _ (p : Pair) (ps : List Pair) (odd : isOddPair p ≡ true) (go : Continue
       silent-in-front s t (forgotten s) p qs′ ps
       (repeat-is-skipped s p heardCode (is-command is) (ap (isLast p) holds ∙ last-is-last p))
       (go none qs′ (forgotten s) t rest refl (record { channel = same .channel; field = same .field }))
-  second-after-acting s t qs is same holds (one.is-spoiled {q = q} {qs = qs′} c w even rest) =
-      hit-in-front s t q qs′ ps even (go (some p) qs′ s t rest holds same)
+  second-after-acting s t qs is same holds (one.is-corrupted {q = q} {qs = qs′} c w even rest) =
+      corrupted-in-front s t q qs′ ps even (go (some p) qs′ s t rest holds same)
 
   -- after a first copy that was corrupted or skipped: the second arrives, and acts
-  second-acts : (h : Option Pair) (s t : Cea608State) (qs : List Pair) → isCommandPair p ≡ true → Same s t → wasSpoiled h p ≡ true → isLast p (s .«last_data») ≡ false → OneByOne h (p ∷ doubled ps) qs → Agrees s t qs (p ∷ ps)
-  second-acts h s t qs is same hit other (one.is-spoiled c w even rest) = absurd (true≢false (sym hit ∙ w))
-  second-acts none s t qs is same hit other (one.arrives rest) = absurd (true≢false (sym hit))
-  second-acts (some q) s t qs is same hit other (one.arrives {qs = qs′} rest) =
-      let on = subst (λ (b : Bool). OneByOne (cond b (some q) none) (doubled ps) qs′) hit rest in
+  second-acts : (h : Option Pair) (s t : Cea608State) (qs : List Pair) → isCommandPair p ≡ true → Same s t → wasCorrupted h p ≡ true → isLast p (s .«last_data») ≡ false → OneByOne h (p ∷ doubled ps) qs → Agrees s t qs (p ∷ ps)
+  second-acts h s t qs is same corrupted other (one.is-corrupted c w even rest) = absurd (true≢false (sym corrupted ∙ w))
+  second-acts none s t qs is same corrupted other (one.arrives rest) = absurd (true≢false (sym corrupted))
+  second-acts (some q) s t qs is same corrupted other (one.arrives {qs = qs′} rest) =
+      let on = subst (λ (b : Bool). OneByOne (cond b (some q) none) (doubled ps) qs′) corrupted rest in
       acts-heard s t qs′ is other
-      (go (some q) qs′ _ _ on (ap last.Was (sym (same-is-equal q p hit))) (acted-same s t same))
+      (go (some q) qs′ _ _ on (ap last.Was (sym (same-is-equal q p corrupted))) (acted-same s t same))
 
   -- the two copies of a command
-  command-heard : (h : Option Pair) (qs : List Pair) (s t : Cea608State) (hit : Bool) → wasSpoiled h p ≡ hit → isCommandPair p ≡ true → OneByOne h (p ∷ p ∷ doubled ps) qs → Ready h (s .«last_data») → Same s t → Agrees s t qs (p ∷ ps)
+  command-heard : (h : Option Pair) (qs : List Pair) (s t : Cea608State) (corrupted : Bool) → wasCorrupted h p ≡ corrupted → isCommandPair p ≡ true → OneByOne h (p ∷ p ∷ doubled ps) qs → Ready h (s .«last_data») → Same s t → Agrees s t qs (p ∷ ps)
   command-heard h qs s t false w is (one.arrives {qs = qs′} rest) ready same =
       let first = subst (λ (b : Bool). OneByOne (cond b h none) (p ∷ doubled ps) qs′) w rest in
       let other = repeat-is-told h (s .«last_data») p heardCode (is-command is) ready ∙ w in
@@ -141,14 +141,14 @@ module _ (p : Pair) (ps : List Pair) (odd : isOddPair p ≡ true) (go : Continue
       let again = repeat-is-told h (s .«last_data») p heardCode (is-command is) ready ∙ w in
       silent-in-front s t (forgotten s) p qs′ (p ∷ ps) (repeat-is-skipped s p heardCode (is-command is) again)
       (second-acts h (forgotten s) t qs′ is (record { channel = same .channel; field = same .field }) w refl on)
-  command-heard h qs s t hit w is (one.is-spoiled {q = q} {qs = qs′} c fine even rest) ready same =
+  command-heard h qs s t corrupted w is (one.is-corrupted {q = q} {qs = qs′} c fine even rest) ready same =
       let other = repeat-is-told h (s .«last_data») p heardCode (is-command is) ready ∙ fine in
-      hit-in-front s t q qs′ (p ∷ ps) even (second-acts (some p) s t qs′ is same (same-itself p) other rest)
+      corrupted-in-front s t q qs′ (p ∷ ps) even (second-acts (some p) s t qs′ is same (same-itself p) other rest)
 
   pair-heard : (t : Bool) → isCommandPair p ≡ t → Continues (p ∷ ps)
   pair-heard true is h qs s t sent ready same =
       let twice = subst (λ (b : Bool). OneByOne h (cond b (p ∷ p ∷ doubled ps) (p ∷ doubled ps)) qs) is sent in
-      command-heard h qs s t (wasSpoiled h p) refl is twice ready same
+      command-heard h qs s t (wasCorrupted h p) refl is twice ready same
   pair-heard false is h qs s t sent ready same =
       let single = subst (λ (b : Bool). OneByOne h (cond b (p ∷ p ∷ doubled ps) (p ∷ doubled ps)) qs) is sent in
       text-heard h qs s t is single same

@@ -23,7 +23,7 @@ use Rattle.code.specs.declared.control.ControlCode.{ControlCode}
 use Rattle.code.specs.declared.pair.Pair.{Pair}
 use Rattle.event.specs.declared.event.Cea608.{Cea608}
 use Rattle.agreement.proofs.Padding.{afterPadding, padding-step}
-use Rattle.agreement.specs.FrameRate.{FrameRateLaw, MayRepad, ReadAlike, SetBy, Settled, Unchanged, awaits, commandIn, harmless, isNone, isSilent, nextRead, noRepeat}
+use Rattle.agreement.specs.FrameRate.{FrameRateLaw, MayRepad, ReadAlike, SetBy, Settled, Unchanged, awaits, commandIn, harmless, isNone, isSilent, nextRead, repeatIsNotNext}
 use Rattle.agreement.specs.Pairs.{padding}
 use Rattle.agreement.proofs.OneByOne.{same-is-equal}
 use Rattle.agreement.proofs.Settled.{reached-is-settled}
@@ -109,11 +109,11 @@ by-cases true false e = inl refl
 by-cases false r e = inr refl
 
 module _ (s : Cea608State) where
-  no-repeat-alike : (rest : List Pair) → noRepeat (s .«last_data») (nextRead rest) ≡ true → ReadAlike s (afterPadding s) rest
+  no-repeat-alike : (rest : List Pair) → repeatIsNotNext (s .«last_data») (nextRead rest) ≡ true → ReadAlike s (afterPadding s) rest
   no-repeat-alike [] h = record { same-answers = refl; same-channel = refl; same-field = refl }
   no-repeat-alike (p ∷ ps) h = first (isOddPair p) refl h (no-repeat-alike ps)
     where
-      first : (t : Bool) → isOddPair p ≡ t → noRepeat (s .«last_data») (cond t (some p) (nextRead ps)) ≡ true → (noRepeat (s .«last_data») (nextRead ps) ≡ true → ReadAlike s (afterPadding s) ps) → ReadAlike s (afterPadding s) (p ∷ ps)
+      first : (t : Bool) → isOddPair p ≡ t → repeatIsNotNext (s .«last_data») (cond t (some p) (nextRead ps)) ≡ true → (repeatIsNotNext (s .«last_data») (nextRead ps) ≡ true → ReadAlike s (afterPadding s) ps) → ReadAlike s (afterPadding s) (p ∷ ps)
       first true odd is go =
           equal-from-here s (afterPadding s) p ps
           (others-alike p (s .«last_data») (last.Was padding) (s .«last_channel») (s .«last_received_field») odd
@@ -190,7 +190,7 @@ both-so true true e = (refl, refl)
 both-so true false e = absurd (true≢false e)
 both-so false r e = absurd (true≢false e)
 
-repeat-next : (l : LastPair) (next : Option Pair) → noRepeat l next ≡ false → RepeatNext l next
+repeat-next : (l : LastPair) (next : Option Pair) → repeatIsNotNext l next ≡ false → RepeatNext l next
 repeat-next last.Absent next e = absurd (true≢false e)
 repeat-next (last.Was p) none e = absurd (none-next (isCommandPair p) e)
 repeat-next (last.Was p) (some q) e =
@@ -219,7 +219,7 @@ module _ (s : Cea608State) (rest : List Pair) where
       (sym (ap (λ (x : Stepped). x .1 .«last_received_field») acted) ∙ set .1)
       rest (s .«last_data») (last.Was padding) (inl was) (inr refl)
 
-  repadded-alike : (t : Bool) → noRepeat (s .«last_data») (nextRead rest) ≡ t → (t || isSilent (s .«last_data»)) ≡ true → (t ≡ false → Settled s) → ReadAlike s (afterPadding s) rest
+  repadded-alike : (t : Bool) → repeatIsNotNext (s .«last_data») (nextRead rest) ≡ t → (t || isSilent (s .«last_data»)) ≡ true → (t ≡ false → Settled s) → ReadAlike s (afterPadding s) rest
   repadded-alike true e fine settled = no-repeat-alike s rest e
   repadded-alike false e fine settled =
       let r = repeat-next (s .«last_data») (nextRead rest) e in
@@ -230,7 +230,7 @@ module _ (s : Cea608State) (rest : List Pair) where
   pub may-repad-changes-nothing : MayRepad s rest → Unchanged s rest
   may-repad-changes-nothing may =
       rw (padding-step s)
-      (repadded-alike (noRepeat (s .«last_data») (nextRead rest)) refl (may .does-no-harm) (may .is-settled))
+      (repadded-alike (repeatIsNotNext (s .«last_data») (nextRead rest)) refl (may .does-no-harm) (may .is-settled))
 
 -- The other direction: padding before an awaited repeat makes it act, so the answer to it stays the same only where the
 -- command has no event.
@@ -263,7 +263,7 @@ module _ (s : Cea608State) (p : Pair) (was : s .«last_data» ≡ last.Was p) (i
           (subst (λ (x : Pair). step s x .0 ≡ step (afterPadding s) x .0) q-is-p (heads-equal e))
 
 module _ (s : Cea608State) (rest : List Pair) where
-  silent-or-not-next : (t : Bool) → noRepeat (s .«last_data») (nextRead rest) ≡ t → answers s rest ≡ answers (afterPadding s) rest → (t || isSilent (s .«last_data»)) ≡ true
+  silent-or-not-next : (t : Bool) → repeatIsNotNext (s .«last_data») (nextRead rest) ≡ t → answers s rest ≡ answers (afterPadding s) rest → (t || isSilent (s .«last_data»)) ≡ true
   silent-or-not-next true e unchanged = refl
   silent-or-not-next false e unchanged =
       let r = repeat-next (s .«last_data») (nextRead rest) e in
@@ -272,7 +272,7 @@ module _ (s : Cea608State) (rest : List Pair) where
 
   pub unchanged-is-harmless : Unchanged s rest → harmless s rest ≡ true
   unchanged-is-harmless u =
-      silent-or-not-next (noRepeat (s .«last_data») (nextRead rest)) refl
+      silent-or-not-next (repeatIsNotNext (s .«last_data») (nextRead rest)) refl
       (u .same-answers ∙ ap (λ (x : Stepped). answers (x .1) rest) (padding-step s))
 
 -- from a fresh receiver on, harmless is enough

@@ -11,7 +11,7 @@ use lib.ListN.{length, replicate}
 use Rattle.code.specs.Channel.{channelOne, fieldOne}
 use Rattle.code.specs.Characters.{standard}
 use Rattle.code.specs.Letter.{letterAt}
-use Rattle.code.specs.Read.{commandOf, meaning, readPair}
+use Rattle.code.specs.Read.{controlCodeOf, meaning, readPair}
 use Rattle.code.specs.Pair.{pair}
 use Rattle.code.specs.Write.{controlBytes, inDomain, onLine, writeCode}
 use Rattle.code.specs.declared.character.Character.the-variants as character
@@ -77,7 +77,7 @@ unfolding ones onesIn writeCode inDomain queueable admit pairOf codeOf pop pushR
 what-it-is-made-of = refl
 
 pub what-is-meant : events (readOnce fresh (rollUp2 ∷ carriageReturn ∷ hi ∷ [])) ≡ modeEvent ∷ returnEvent ∷ hiEvent ∷ []
-unfolding readPair ones onesIn standard step eventOf textEvent modeOf charOf meaning commandOf
+unfolding readPair ones onesIn standard step eventOf textEvent modeOf charOf meaning controlCodeOf
 what-is-meant = refl
 
 -- a copy of each command corrupted, the first of the one and the second of the other: all is decoded
@@ -88,10 +88,10 @@ pub one-corrupted-each-is-allowed : Line line oneCorruptedEach
 unfolding ones onesIn
 one-corrupted-each-is-allowed =
     one-by-one-is-a-line line oneCorruptedEach (refl, (refl, (refl, (refl, (refl, tt)))))
-    (one.is-spoiled refl refl refl (one.arrives (one.arrives (one.is-spoiled refl refl refl (one.arrives one.ends)))))
+    (one.is-corrupted refl refl refl (one.arrives (one.arrives (one.is-corrupted refl refl refl (one.arrives one.ends)))))
 
 pub one-corrupted-each-is-decoded : events (answers fresh oneCorruptedEach) ≡ modeEvent ∷ returnEvent ∷ hiEvent ∷ []
-unfolding readPair ones onesIn standard step eventOf textEvent modeOf charOf meaning commandOf
+unfolding readPair ones onesIn standard step eventOf textEvent modeOf charOf meaning controlCodeOf
 one-corrupted-each-is-decoded = refl
 
 pub one-corrupted-each-is-refused : map isRefusal (answers fresh oneCorruptedEach) ≡ true ∷ false ∷ false ∷ true ∷ false ∷ []
@@ -105,10 +105,10 @@ twoCorrupted = rollUp2 ∷ rollUp2 ∷ pair 0x14 0xAD ∷ pair 0x94 0x2D ∷ hi 
 pub two-corrupted-are-carried : Carried line twoCorrupted
 unfolding ones onesIn
 two-corrupted-are-carried =
-    agreed.arrives (agreed.arrives (agreed.is-spoiled refl refl (agreed.is-spoiled refl refl (agreed.arrives agreed.ends))))
+    agreed.arrives (agreed.arrives (agreed.is-corrupted refl refl (agreed.is-corrupted refl refl (agreed.arrives agreed.ends))))
 
 pub two-corrupted-lose-a-command : events (answers fresh twoCorrupted) ≡ modeEvent ∷ hiEvent ∷ []
-unfolding readPair ones onesIn standard step eventOf textEvent modeOf charOf meaning commandOf
+unfolding readPair ones onesIn standard step eventOf textEvent modeOf charOf meaning controlCodeOf
 two-corrupted-lose-a-command = refl
 
 -- the text corrupted, and no command: its words are lost
@@ -116,7 +116,7 @@ abbrev textCorrupted : List Pair
 textCorrupted = rollUp2 ∷ rollUp2 ∷ carriageReturn ∷ carriageReturn ∷ pair 0x48 0xE9 ∷ []
 
 pub corrupted-text-loses-words : events (answers fresh textCorrupted) ≡ modeEvent ∷ returnEvent ∷ []
-unfolding readPair ones onesIn step eventOf modeOf meaning commandOf
+unfolding readPair ones onesIn step eventOf modeOf meaning controlCodeOf
 corrupted-text-loses-words = refl
 
 -- so the agreement fails for both: two events are decoded, and three were meant
@@ -152,5 +152,5 @@ a-stretch-of-four = (refl, refl)
 pub two-corrupted-of-four-lose-a-command :
     (events (readOnce fresh (carriageReturn ∷ carriageReturn ∷ [])) ≡ returnEvent ∷ returnEvent ∷ [])
     × (events (answers fresh (carriageReturn ∷ pair 0x14 0xAD ∷ pair 0x14 0xAD ∷ carriageReturn ∷ [])) ≡ returnEvent ∷ [])
-unfolding readPair ones onesIn step eventOf meaning commandOf
+unfolding readPair ones onesIn step eventOf meaning controlCodeOf
 two-corrupted-of-four-lose-a-command = (refl, refl)

@@ -14,8 +14,8 @@ use Rattle.receiver.proofs.Step.{even-is-refused-1, odd-is-not-refused}
 use Rattle.receiver.specs.Reading.{answers}
 use Rattle.receiver.specs.Receiver.{Stepped, step}
 use Rattle.receiver.specs.declared.state.Cea608State.{Cea608State}
-use Rattle.agreement.proofs.OneByOne.{same-itself, spoiled-is-another}
-use Rattle.agreement.specs.Agreement.{All, ByNumber1, Carried, isRefusal, spoiledPlaces}
+use Rattle.agreement.proofs.OneByOne.{same-itself, corrupted-is-another}
+use Rattle.agreement.specs.Agreement.{All, ByNumber1, Carried, isRefusal, corruptedPlaces}
 use Rattle.agreement.specs.Agreement as line
 use Rattle.agreement.specs.OneByOne.{AllOdd}
 
@@ -30,15 +30,15 @@ arrived s p odd =
     ∙ sym (ap not (same-itself p))
 
 -- and one that fails parity is not the one that was sent, and is refused
-hit : (s : Cea608State) (p q : Pair) → isOddPair p ≡ true → isOddPair q ≡ false → isRefusal (step s q .0) ≡ not (samePair p q)
-hit s p q odd even = rw (even-is-refused-1 s q even, spoiled-is-another p q odd even) refl
+even-is-a-refusal : (s : Cea608State) (p q : Pair) → isOddPair p ≡ true → isOddPair q ≡ false → isRefusal (step s q .0) ≡ not (samePair p q)
+even-is-a-refusal s p q odd even = rw (even-is-refused-1 s q even, corrupted-is-another p q odd even) refl
 
-pub the-corrupted-are-refused : (ps qs : List Pair) (s : Cea608State) → AllOdd ps → Carried ps qs → map isRefusal (answers s qs) ≡ spoiledPlaces ps qs
+pub the-corrupted-are-refused : (ps qs : List Pair) (s : Cea608State) → AllOdd ps → Carried ps qs → map isRefusal (answers s qs) ≡ corruptedPlaces ps qs
 the-corrupted-are-refused ps qs s all line.ends = refl
 the-corrupted-are-refused ps qs s all (line.arrives {p = p} {ps = ps′} {qs = qs′} rest) =
     ap₂ _∷_ (arrived s p (all .0)) (the-corrupted-are-refused ps′ qs′ (step s p .1) (all .1) rest)
-the-corrupted-are-refused ps qs s all (line.is-spoiled {p = p} {q = q} {ps = ps′} {qs = qs′} command even rest) =
-    ap₂ _∷_ (hit s p q (all .0) even) (the-corrupted-are-refused ps′ qs′ (step s q .1) (all .1) rest)
+the-corrupted-are-refused ps qs s all (line.is-corrupted {p = p} {q = q} {ps = ps′} {qs = qs′} command even rest) =
+    ap₂ _∷_ (even-is-a-refusal s p q (all .0) even) (the-corrupted-are-refused ps′ qs′ (step s q .1) (all .1) rest)
 
 -- of any pairs from any state: every refusal has number 1
 by-1 : (s : Cea608State) (p : Pair) (t : Bool) (o : Outcome (Option Cea608)) (os : List (Outcome (Option Cea608))) → isOddPair p ≡ t → step s p .0 ≡ o → All ByNumber1 os → All ByNumber1 (o ∷ os)

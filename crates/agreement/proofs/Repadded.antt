@@ -10,7 +10,7 @@ use lib.Count.{ones, onesIn}
 use Rattle.code.specs.Channel.{channelOne}
 use Rattle.code.specs.Outcome.{Outcome}
 use Rattle.code.specs.Pair.{samePair}
-use Rattle.code.specs.Read.{commandOf, meaning, readPair}
+use Rattle.code.specs.Read.{controlCodeOf, meaning, readPair}
 use Rattle.code.specs.Pair.{pair}
 use Rattle.code.specs.declared.pair.Pair.{Pair}
 use Rattle.event.specs.declared.event.Cea608.{Cea608}
@@ -89,7 +89,7 @@ stream = carriageReturn ∷ corrupted ∷ hi ∷ padding ∷ flash ∷ flash ∷
 -- padding is put in after the corrupted copy (c), taken out after the text (a), put in between the copies of flash (d)
 -- and put in at the end (b)
 pub a-place-of-each-case : Repadded fresh stream (carriageReturn ∷ corrupted ∷ padding ∷ hi ∷ flash ∷ padding ∷ flash ∷ carriageReturn ∷ padding ∷ [])
-unfolding readPair ones onesIn step eventOf modeOf meaning commandOf
+unfolding readPair ones onesIn step eventOf modeOf meaning controlCodeOf
 a-place-of-each-case =
     let c = reached-may-repad (carriageReturn ∷ corrupted ∷ []) (hi ∷ padding ∷ flash ∷ flash ∷ carriageReturn ∷ []) refl in
     let a = reached-may-repad (carriageReturn ∷ corrupted ∷ padding ∷ hi ∷ []) (flash ∷ flash ∷ carriageReturn ∷ []) refl in
@@ -108,7 +108,7 @@ abbrev oneCopy : List Pair
 oneCopy = carriageReturn ∷ []
 
 pub harmful-between-copies : harmless (after fresh oneCopy) oneCopy ≡ false
-unfolding readPair ones onesIn step eventOf meaning commandOf
+unfolding readPair ones onesIn step eventOf meaning controlCodeOf
 harmful-between-copies = refl
 
 pub noticed-between-copies : Unchanged (after fresh oneCopy) oneCopy → ⊥
@@ -116,9 +116,9 @@ noticed-between-copies unchanged =
     true≢false (sym (frame-rate-law oneCopy oneCopy .1 unchanged) ∙ harmful-between-copies)
 
 pub doubled-scrolls-once : events (answers fresh (carriageReturn ∷ carriageReturn ∷ [])) ≡ event.CarriageReturn channelOne ∷ []
-unfolding readPair ones onesIn step eventOf meaning commandOf
+unfolding readPair ones onesIn step eventOf meaning controlCodeOf
 doubled-scrolls-once = refl
 
 pub padded-inside-scrolls-twice : events (answers fresh (carriageReturn ∷ padding ∷ carriageReturn ∷ [])) ≡ event.CarriageReturn channelOne ∷ event.CarriageReturn channelOne ∷ []
-unfolding readPair ones onesIn step eventOf textEvent charOf meaning commandOf
+unfolding readPair ones onesIn step eventOf textEvent charOf meaning controlCodeOf
 padded-inside-scrolls-twice = refl

@@ -3,7 +3,7 @@
 use mathlib.Core.List.{map}
 use mathlib.Core.Path.{_≡_, refl}
 use lib.Count.{ones, onesIn}
-use Rattle.code.specs.Read.{commandOf, meaning, readPair}
+use Rattle.code.specs.Read.{controlCodeOf, meaning, readPair}
 use Rattle.code.specs.Write.{controlBytes, inDomain, onLine, writeCode}
 use Rattle.queue.specs.Number.{codeOf}
 use Rattle.queue.specs.Queue.{admit, pairOf, pop}
@@ -16,5 +16,5 @@ use Rattle.code.specs.Code.{charOf}
 use Rattle.agreement.specs.TriedByHand.{pairsTried, try, whatTheyGive}
 
 pub tried-by-hand : map try pairsTried ≡ whatTheyGive
-unfolding readPair ones onesIn writeCode inDomain queueable admit pairOf codeOf pop pushRing popRing wellFormed step eventOf textEvent modeOf charOf onLine controlBytes meaning commandOf
+unfolding readPair ones onesIn writeCode inDomain queueable admit pairOf codeOf pop pushRing popRing wellFormed step eventOf textEvent modeOf charOf onLine controlBytes meaning controlCodeOf
 tried-by-hand = refl

@@ -63,28 +63,28 @@ queuePairs calls s = inCalls queuePair calls s
 pub data Carried : List Pair → List Pair → Type 0 where
   ends : Carried [] []
   arrives : {p : Pair} {ps qs : List Pair} → Carried ps qs → Carried (p ∷ ps) (p ∷ qs)
-  is-spoiled : {p q : Pair} {ps qs : List Pair} → isCommandPair p ≡ true → isOddPair q ≡ false → Carried ps qs → Carried (p ∷ ps) (q ∷ qs)
+  is-corrupted : {p q : Pair} {ps qs : List Pair} → isCommandPair p ≡ true → isOddPair q ≡ false → Carried ps qs → Carried (p ∷ ps) (q ∷ qs)
 
 -- at each place, whether a pair arrived as another
-abbrev pub spoiledPlaces : List Pair → List Pair → List Bool
-spoiledPlaces (p ∷ ps) (q ∷ qs) = not (samePair p q) ∷ spoiledPlaces ps qs
-spoiledPlaces [] qs = []
-spoiledPlaces (p ∷ ps) [] = []
+abbrev pub corruptedPlaces : List Pair → List Pair → List Bool
+corruptedPlaces (p ∷ ps) (q ∷ qs) = not (samePair p q) ∷ corruptedPlaces ps qs
+corruptedPlaces [] qs = []
+corruptedPlaces (p ∷ ps) [] = []
 
 -- how many did
-abbrev pub hits : List Bool → ℕ
-hits [] = 0
-hits (true ∷ places) = suc (hits places)
-hits (false ∷ places) = hits places
+abbrev pub howMany : List Bool → ℕ
+howMany [] = 0
+howMany (true ∷ places) = suc (howMany places)
+howMany (false ∷ places) = howMany places
 
 -- stretch by stretch: wherever n copies of one pair were sent in a row, at most one of them is corrupted
-abbrev pub OneHit : List Pair → List Pair → Type 0
-OneHit sent arrived =
-    (before : List Pair) (n : ℕ) (p : Pair) (later : List Pair) → sent ≡ before ++ (replicate n p ++ later) → hits (take n (drop (length before) (spoiledPlaces sent arrived))) ≤ 1
+abbrev pub OneEachStretch : List Pair → List Pair → Type 0
+OneEachStretch sent arrived =
+    (before : List Pair) (n : ℕ) (p : Pair) (later : List Pair) → sent ≡ before ++ (replicate n p ++ later) → howMany (take n (drop (length before) (corruptedPlaces sent arrived))) ≤ 1
 
 pub record Line (sent arrived : List Pair) : Type 0 where
   pub pairs : Carried sent arrived
-  pub stretches : OneHit sent arrived
+  pub stretches : OneEachStretch sent arrived
 
 -- a refusal, whatever its number
 abbrev pub isRefusal : Outcome (Option Cea608) → Bool
@@ -109,7 +109,7 @@ pub record Agreement (queued sent arrived : List Pair) : Type 0 where
   pub same-channel : after fresh arrived .«last_channel» ≡ afterOnce fresh queued .«last_channel»
   pub same-field : after fresh arrived .«last_received_field» ≡ afterOnce fresh queued .«last_received_field»
   -- at each place it refuses exactly where the line corrupted the pair, and by number 1
-  pub refuses-the-spoiled : map isRefusal (answers fresh arrived) ≡ spoiledPlaces sent arrived
+  pub refuses-the-corrupted : map isRefusal (answers fresh arrived) ≡ corruptedPlaces sent arrived
   pub refuses-by-1 : All ByNumber1 (answers fresh arrived)
 
 abbrev pub DemandThree : Type 0

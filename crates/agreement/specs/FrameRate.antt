@@ -10,7 +10,7 @@ use mathlib.Core.Path.{_≡_}
 use Rattle.code.specs.Outcome.{Outcome}
 use Rattle.code.specs.Parity.{stripped}
 use Rattle.code.specs.Pair.{samePair}
-use Rattle.code.specs.Read.{commandOf, isCommandPair, isOddPair}
+use Rattle.code.specs.Read.{controlCodeOf, isCommandPair, isOddPair}
 use Rattle.code.specs.declared.control.ControlCode.{ControlCode}
 use Rattle.code.specs.declared.pair.Pair.{Pair}
 use Rattle.event.specs.declared.event.Cea608.{Cea608}
@@ -43,7 +43,7 @@ differs l (some p) = not (isLast p l)
 
 -- the command that a pair is read as
 abbrev pub commandIn : Pair → ControlCode
-commandIn p = commandOf (stripped (p .0)) (stripped (p .1))
+commandIn p = controlCodeOf (stripped (p .0)) (stripped (p .1))
 
 -- it has no event: an alarm, flash, a text command, an `Unknown`, or a symbol that has no character
 abbrev pub isSilent : LastPair → Bool
@@ -52,13 +52,13 @@ isSilent (last.Was p) = isNone (eventOf (commandIn p))
 
 -- By the last pair and the next one that is not refused, that one is not the awaited repeat: (a) no repeat is awaited,
 -- (b) no such pair follows, or (c) it differs from the last pair.
-abbrev pub noRepeat : LastPair → Option Pair → Bool
-noRepeat l next = not (awaits l) || isNone next || differs l next
+abbrev pub repeatIsNotNext : LastPair → Option Pair → Bool
+repeatIsNotNext l next = not (awaits l) || isNone next || differs l next
 
 -- A place of a stream is given by the state there and the rest of the stream. Padding does no harm in the cases (a), (b)
 -- and (c), and where (d) the awaited command has no event.
 abbrev pub harmless : Cea608State → List Pair → Bool
-harmless s rest = noRepeat (s .«last_data») (nextRead rest) || isSilent (s .«last_data»)
+harmless s rest = repeatIsNotNext (s .«last_data») (nextRead rest) || isSilent (s .«last_data»)
 
 -- from two states: the same answer to each pair, and the same channel and field at the end
 pub record ReadAlike (s t : Cea608State) (ps : List Pair) : Type 0 where
@@ -88,7 +88,7 @@ Settled s = SetBy (s .«last_data») s
 -- from a state of any contents: where the awaited repeat is next, case (d) asks that the state is settled too
 pub record MayRepad (s : Cea608State) (rest : List Pair) : Type 0 where
   pub does-no-harm : harmless s rest ≡ true
-  pub is-settled : noRepeat (s .«last_data») (nextRead rest) ≡ false → Settled s
+  pub is-settled : repeatIsNotNext (s .«last_data») (nextRead rest) ≡ false → Settled s
 
 -- Read from this state, the second stream is the first with padding put in or taken out at any such places. Each is judged
 -- in the first stream, as it goes on from there, and with the padding before it as the second stream has it.

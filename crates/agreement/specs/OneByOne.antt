@@ -15,15 +15,15 @@ IsOdd p = isOddPair p ≡ true
 abbrev pub AllOdd : List Pair → Type 0
 AllOdd ps = All IsOdd ps
 
-abbrev pub wasSpoiled : Option Pair → Pair → Bool
-wasSpoiled none p = false
-wasSpoiled (some q) p = samePair q p
+abbrev pub wasCorrupted : Option Pair → Pair → Bool
+wasCorrupted none p = false
+wasCorrupted (some q) p = samePair q p
 
 -- the stretch goes on as long as its pair is sent
 abbrev pub goesOn : Option Pair → Pair → Option Pair
-goesOn h p = cond (wasSpoiled h p) h none
+goesOn h p = cond (wasCorrupted h p) h none
 
 pub data OneByOne : Option Pair → List Pair → List Pair → Type 0 where
   ends : {h : Option Pair} → OneByOne h [] []
   arrives : {h : Option Pair} {p : Pair} {ps qs : List Pair} → OneByOne (goesOn h p) ps qs → OneByOne h (p ∷ ps) (p ∷ qs)
-  is-spoiled : {h : Option Pair} {p q : Pair} {ps qs : List Pair} → isCommandPair p ≡ true → wasSpoiled h p ≡ false → isOddPair q ≡ false → OneByOne (some p) ps qs → OneByOne h (p ∷ ps) (q ∷ qs)
+  is-corrupted : {h : Option Pair} {p q : Pair} {ps qs : List Pair} → isCommandPair p ≡ true → wasCorrupted h p ≡ false → isOddPair q ≡ false → OneByOne (some p) ps qs → OneByOne h (p ∷ ps) (q ∷ qs)

@@ -12,7 +12,7 @@ use Rattle.code.proofs.Bytes.{letter-point}
 use Rattle.code.proofs.First.{first-inside, first-passes}
 use Rattle.code.proofs.Numbers.{letter-again, letter-place, letter-small, symbol-again, symbol-place, symbol-small}
 use Rattle.code.proofs.OneAnswer.{clash, same}
-use Rattle.code.proofs.TableRules.{firstIn, letter-once, symbol-apart, symbol-once}
+use Rattle.code.proofs.TableRules.{firstPlaceOf, letter-once, symbol-apart, symbol-once}
 use Rattle.code.specs.Characters.{isPoint, placeOf, standard, symbols}
 use Rattle.code.specs.Code.{charOf, fromChar, letterCode, symbolCode}
 use Rattle.code.specs.Letter.{letterAt, letterPlace}
@@ -83,7 +83,7 @@ a-characters-control-is-a-symbol c ch k e = by-place c ch k (placeOf c standard)
 -- the place of a letter's character is the letter's own
 letter-at-its-place : (l : Letter) (c : ℕ) → charOf (code.Letter l) ≡ some c → placeOf c standard ≡ some (letterPlace l)
 unfolding charOf
-letter-at-its-place l c e = sym (ap (firstIn standard) e) ∙ letter-once (letterPlace l) (letter-small l)
+letter-at-its-place l c e = sym (ap (firstPlaceOf standard) e) ∙ letter-once (letterPlace l) (letter-small l)
 
 pub a-letter-is-its-characters-code : (l : Letter) (c : ℕ) (ch : Channel) → charOf (code.Letter l) ≡ some c → fromChar c ch ≡ answer (code.Letter l)
 unfolding fromChar
@@ -93,7 +93,7 @@ a-letter-is-its-characters-code l c ch e =
 
 -- a symbol's character is no standard one, and its place among the symbols is the symbol's own
 symbol-is-no-letter : (s : Symbol) (c : ℕ) → getD symbols (symbolPlace s) none ≡ some c → placeOf c standard ≡ none
-symbol-is-no-letter s c e = sym (ap (firstIn standard) e) ∙ symbol-apart (symbolPlace s) (symbol-small s)
+symbol-is-no-letter s c e = sym (ap (firstPlaceOf standard) e) ∙ symbol-apart (symbolPlace s) (symbol-small s)
 
 pub a-symbol-is-its-characters-code : (f : CodeField) (d : Channel) (s : Symbol) (c : ℕ) (ch : Channel) → charOf (symbolAs f d s) ≡ some c → fromChar c ch ≡ answer (symbolAs Absent ch s)
 unfolding fromChar charOf

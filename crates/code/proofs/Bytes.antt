@@ -14,7 +14,7 @@ use Rattle.code.specs.Characters.{standard, symbols}
 use Rattle.code.specs.Pair.{pair, plus}
 use Rattle.code.specs.Preamble.{rowPrefix}
 use Rattle.code.specs.Symbol.{symbolBase}
-use Rattle.code.specs.Tables.{allPoints, entryPoint}
+use Rattle.code.specs.Tables.{allPoints, pointOrNone}
 use Rattle.code.specs.declared.symbol.SymbolRow.{SymbolRow}
 use Rattle.code.specs.declared.symbol.SymbolRow.the-variants.{Special, Spanish, French, Portuguese, German}
 
@@ -41,6 +41,6 @@ pub letter-point : (n : ℕ) → n < 96 → some (getD allPoints n 0) ≡ getD s
 unfolding standard symbols
 letter-point n less = agree (λ (x : ℕ). some (getD allPoints x 0)) (λ (x : ℕ). getD standard x none) 96 refl n less
 
-pub symbol-point : (n : ℕ) → n < 80 → entryPoint (getD allPoints (96 + n) 0) ≡ getD symbols n none
+pub symbol-point : (n : ℕ) → n < 80 → pointOrNone (getD allPoints (96 + n) 0) ≡ getD symbols n none
 unfolding standard symbols
-symbol-point n less = agree (λ (x : ℕ). entryPoint (getD allPoints (96 + x) 0)) (λ (x : ℕ). getD symbols x none) 80 refl n less
+symbol-point n less = agree (λ (x : ℕ). pointOrNone (getD allPoints (96 + x) 0)) (λ (x : ℕ). getD symbols x none) 80 refl n less

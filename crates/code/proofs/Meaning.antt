@@ -13,7 +13,7 @@ use Rattle.code.specs.Control.{commandAt}
 use Rattle.code.specs.MidRow.{midRowAt}
 use Rattle.code.specs.Preamble.{styleAt}
 use Rattle.code.specs.Range.{within}
-use Rattle.code.specs.Read.{channelOf, commandOf, fieldOf, isCommand, meaning, orUnknown, symbolIn, underlined, withoutChannel, withoutField}
+use Rattle.code.specs.Read.{channelOf, controlCodeOf, fieldOf, isCommand, meaning, orUnknown, symbolIn, underlined, withoutChannel, withoutField}
 use Rattle.code.specs.Tables.{firstRowAt, meaningOf, tabIn}
 use Rattle.code.specs.declared.channel.Channel.{Channel}
 use Rattle.code.specs.declared.control.CodeField.{CodeField}
@@ -89,8 +89,8 @@ said-is : (a b : ℕ) (o : Option Control) → meantOr a b (meaningOf o) ≡ orU
 said-is a b none = refl
 said-is a b (some c) = refl
 
-pub parsed : (a b p : ℕ) (ch : Channel) (f : CodeField) (r : Meaning) → 16 ≤ a → a < 32 → ch ≡ channelOf a → f ≡ fieldOf (a % 8 + 16) b → p ≡ withoutField (a % 8 + 16) b → r ≡ meaningOf (meaning p b) → _≡_ {A = ControlCode} (record { field = f; channel = ch; control = meantOr a b r }) (commandOf a b)
-unfolding commandOf
+pub parsed : (a b p : ℕ) (ch : Channel) (f : CodeField) (r : Meaning) → 16 ≤ a → a < 32 → ch ≡ channelOf a → f ≡ fieldOf (a % 8 + 16) b → p ≡ withoutField (a % 8 + 16) b → r ≡ meaningOf (meaning p b) → _≡_ {A = ControlCode} (record { field = f; channel = ch; control = meantOr a b r }) (controlCodeOf a b)
+unfolding controlCodeOf
 parsed a b p ch f r from below of-channel field prefix found =
     simp (found, prefix, field, of-channel, said-is, without-channel a from below)
 

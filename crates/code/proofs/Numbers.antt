@@ -11,7 +11,7 @@ use lib.Dec.{eqb, leb, lit<, ltb}
 use Rattle.code.proofs.Agree.{agree}
 use Rattle.code.specs.Color.{colorAt, colorNumber}
 use Rattle.code.specs.Column.{columnAt, columnNumber}
-use Rattle.code.specs.Control.{commandAt, commandNumber, tabAt, tabNumber}
+use Rattle.code.specs.Control.{commandAt, commandNumber, tabOf, tabNumber}
 use Rattle.code.specs.Letter.{letterAt, letterPlace, letterRowAt, letterRowNumber}
 use Rattle.code.specs.MidRow.{kindNumber}
 use Rattle.code.specs.Preamble.{colorOfStyle, indentIn, isItalics, styleAt, styleOf}
@@ -125,11 +125,7 @@ command-back command.CarriageReturn = (lit< tt, refl)
 command-back command.EraseNonDisplayedMemory = (lit< tt, refl)
 command-back command.EndOfCaption = (lit< tt, refl)
 
--- the tabs count from 1
-abbrev pub fromOne : Tab → ℕ
-fromOne t = tabNumber t - 1
-
-pub tab-back : (t : Tab) → Back tabAt fromOne 3 t
+pub tab-back : (t : Tab) → Back tabOf tabNumber 4 t
 tab-back tab.TabOffset1 = (lit< tt, refl)
 tab-back tab.TabOffset2 = (lit< tt, refl)
 tab-back tab.TabOffset3 = (lit< tt, refl)

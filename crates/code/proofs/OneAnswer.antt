@@ -5,36 +5,25 @@
 use mathlib.Core.Path.{_≡_, refl, ap, ap₂, sym, _∙_}
 use Prim.Native.Nat.{ℕ}
 use native.Mathlib.Omega.{arith}
-use mathlib.Core.Bool.{Bool}
-use Rattle.code.specs.Code.{characterOutcome, charOf, fromChar, fromCharOutcome}
-use Rattle.code.specs.Control.{tabOffset, tabOffsetOutcome}
+use Rattle.code.specs.Code.{characterOutcome, fromCharOutcome}
+use Rattle.code.specs.Control.{tabOffsetOutcome}
 use Rattle.code.specs.MidRow.{maybeColorOutcome}
 use Rattle.code.specs.Outcome.{answer, refused}
-use Rattle.code.specs.Preamble.{fromIndent, fromIndentOutcome, maybeIndentOutcome, newPreamble, newPreambleOutcome}
-use Rattle.code.specs.Read.{fromDataOutcome, readPair}
-use Rattle.code.specs.Write.{domainOutcome, inDomain, rowBytesOutcome, writeCode, writtenOutcome}
-use Rattle.code.specs.declared.channel.Channel.{Channel}
-use Rattle.code.specs.declared.character.Character.{Character}
+use Rattle.code.specs.Preamble.{fromIndentOutcome, maybeIndentOutcome, newPreambleOutcome}
+use Rattle.code.specs.Read.{fromDataOutcome}
+use Rattle.code.specs.Write.{domainOutcome, rowBytesOutcome, writtenOutcome}
 use Rattle.code.specs.declared.character.Character.the-variants as character
-use Rattle.code.specs.declared.character.FromChar.{FromChar}
 use Rattle.code.specs.declared.character.FromChar.the-variants as from-char
 use Rattle.code.specs.declared.code.Code.{Code}
-use Rattle.code.specs.declared.control.TabOffset.{TabOffset}
 use Rattle.code.specs.declared.control.TabOffset.the-variants as tab
 use Rattle.code.specs.declared.midrow.MaybeColor.the-variants as color
 use Rattle.code.specs.declared.pair.Pair.{Pair}
-use Rattle.code.specs.declared.preamble.FromIndent.{FromIndent}
 use Rattle.code.specs.declared.preamble.FromIndent.the-variants as indent
 use Rattle.code.specs.declared.preamble.MaybeIndent.the-variants as columns
-use Rattle.code.specs.declared.preamble.NewPreamble.{NewPreamble}
 use Rattle.code.specs.declared.preamble.NewPreamble.the-variants as preamble
-use Rattle.code.specs.declared.preamble.PreambleType.{PreambleType}
-use Rattle.code.specs.declared.read.FromData.{FromData}
 use Rattle.code.specs.declared.read.FromData.the-variants as from-data
-use Rattle.code.specs.declared.write.Domain.{Domain}
 use Rattle.code.specs.declared.write.Domain.the-variants as domain
 use Rattle.code.specs.declared.write.RowBytes.the-variants as row-bytes
-use Rattle.code.specs.declared.write.Written.{Written}
 use Rattle.code.specs.declared.write.Written.the-variants as written
 
 abbrev pub Injective : {A B : Type 0} → (A → B) → Type 0
@@ -124,31 +113,6 @@ maybe-indent-injective (columns.Indent a) (columns.Indent b) e = cc
 maybe-indent-injective (columns.Indent a) columns.Absent e = let z : _≡_ {A = ℕ} 0 1 = cc in absurd (omega arith)
 maybe-indent-injective columns.Absent (columns.Indent b) e = let z : _≡_ {A = ℕ} 0 1 = cc in absurd (omega arith)
 maybe-indent-injective columns.Absent columns.Absent e = refl
-
--- each promise about an outcome has one answer
-pub from-data-once : (p : Pair) (r s : FromData) → fromDataOutcome r ≡ readPair (p .0) (p .1) → fromDataOutcome s ≡ readPair (p .0) (p .1) → r ≡ s
-from-data-once p = answer-is-unique fromDataOutcome from-data-injective (readPair (p .0) (p .1))
-
-pub write-once : (c : Code) (r s : Written) → writtenOutcome r ≡ writeCode c → writtenOutcome s ≡ writeCode c → r ≡ s
-write-once c = answer-is-unique writtenOutcome written-injective (writeCode c)
-
-pub domain-once : (c : Code) (r s : Domain) → domainOutcome r ≡ inDomain c → domainOutcome s ≡ inDomain c → r ≡ s
-domain-once c = answer-is-unique domainOutcome domain-injective (inDomain c)
-
-pub char-once : (c : Code) (r s : Character) → characterOutcome r ≡ charOf c → characterOutcome s ≡ charOf c → r ≡ s
-char-once c = answer-is-unique characterOutcome character-injective (charOf c)
-
-pub from-char-once : (c : ℕ) (ch : Channel) (r s : FromChar) → fromCharOutcome r ≡ fromChar c ch → fromCharOutcome s ≡ fromChar c ch → r ≡ s
-from-char-once c ch = answer-is-unique fromCharOutcome from-char-injective (fromChar c ch)
-
-pub tab-offset-once : (n : ℕ) (r s : TabOffset) → tabOffsetOutcome r ≡ tabOffset n → tabOffsetOutcome s ≡ tabOffset n → r ≡ s
-tab-offset-once n = answer-is-unique tabOffsetOutcome tab-offset-injective (tabOffset n)
-
-pub from-indent-once : (n : ℕ) (r s : FromIndent) → fromIndentOutcome r ≡ fromIndent n → fromIndentOutcome s ≡ fromIndent n → r ≡ s
-from-indent-once n = answer-is-unique fromIndentOutcome from-indent-injective (fromIndent n)
-
-pub new-preamble-once : (row : ℕ) (u : Bool) (t : PreambleType) (r s : NewPreamble) → newPreambleOutcome r ≡ newPreamble row u t → newPreambleOutcome s ≡ newPreamble row u t → r ≡ s
-new-preamble-once row u t = answer-is-unique newPreambleOutcome new-preamble-injective (newPreamble row u t)
 
 pub row-bytes-injective : Injective rowBytesOutcome
 row-bytes-injective (row-bytes.Are p) (row-bytes.Are q) e = ap row-bytes.Are (same e)

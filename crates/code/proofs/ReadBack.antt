@@ -22,7 +22,7 @@ use Rattle.code.specs.Outcome.{Outcome, answer}
 use Rattle.code.specs.Pair.{pair}
 use Rattle.code.specs.Parity.{stripped, withParity}
 use Rattle.code.specs.Range.{within}
-use Rattle.code.specs.Read.{channelOf, commandOf, fieldOf, isCommand, isCommandPair, isOddPair, meaning, orUnknown, readPair, single, withoutChannel, withoutField}
+use Rattle.code.specs.Read.{channelOf, controlCodeOf, fieldOf, isCommand, isCommandPair, isOddPair, meaning, orUnknown, readPair, single, withoutChannel, withoutField}
 use Rattle.code.specs.Write.{asSingle, controlBytes, isFieldTwo, midRowBytes, onLine, preambleBytes, symbolBytes, together, withChannel, withField, writeCode, writeTwo}
 use Rattle.code.specs.declared.channel.Channel.{Channel}
 use Rattle.code.specs.declared.code.Code.{Code}
@@ -108,8 +108,8 @@ module _ (f : CodeField) (ch : Channel) (a b : ℕ) (c : Control) (from : 16 ≤
       ∙ field-back f a b from below less
       ∙ means
 
-  pub command-back : commandOf sent b ≡ record { field = fieldOf (withoutChannel sent) b; channel = ch; control = c }
-  unfolding commandOf
+  pub command-back : controlCodeOf sent b ≡ record { field = fieldOf (withoutChannel sent) b; channel = ch; control = c }
+  unfolding controlCodeOf
   command-back =
       ap₂ {C = ControlCode} (λ (d : Channel) (m : Option Control). record { field = fieldOf (withoutChannel sent) b; channel = d; control = orUnknown sent b m })
       (channel-kept (ch .0) named (inside .0) (inside .1)) means-again
@@ -121,7 +121,7 @@ module _ (f : CodeField) (ch : Channel) (a b : ℕ) (c : Control) (from : 16 ≤
       let first : stripped (withParity sent) ≡ sent = data-kept sent ∙ known .1 in
       let second : stripped (withParity b) ≡ b = data-kept b ∙ small-stays b less in
       read-as-command (withParity sent) (withParity b) (with-parity sent .odd) (with-parity b .odd) (ap isCommand first ∙ known .0)
-      ∙ ap₂ {C = Outcome (Code × Code)} (λ (x y : ℕ). answer (code.Control (commandOf x y), code.Nul)) first second
+      ∙ ap₂ {C = Outcome (Code × Code)} (λ (x y : ℕ). answer (code.Control (controlCodeOf x y), code.Nul)) first second
       ∙ ap {B = Outcome (Code × Code)} (λ (x : ControlCode). answer (code.Control x, code.Nul)) command-back
 
 -- from 18 on no first byte, channel aside, means anything

@@ -12,7 +12,7 @@ use Rattle.code.proofs.Agree.{agree, agree-grid}
 use Rattle.code.proofs.OneAnswer.{clash}
 use Rattle.code.specs.Outcome.{Outcome, answer, refused}
 use Rattle.code.specs.Parity.{isOdd, stripped, withParity}
-use Rattle.code.specs.Read.{codesOf, commandOf, isCommand, meaning, readPair, single}
+use Rattle.code.specs.Read.{codesOfBytes, controlCodeOf, isCommand, meaning, readPair, single}
 use Rattle.code.specs.Pair.{pair}
 use Rattle.code.specs.Write.{asCommand, asSingle, controlBytes, onLine, preambleBytes, together, writeCode, writeTwo}
 use Rattle.code.specs.declared.channel.Channel.{Channel}
@@ -40,10 +40,10 @@ pub single-again : (b : ℕ) → b < 128 → writeCode (single b) ≡ asSingle b
 unfolding ones onesIn writeCode
 single-again b less = agree (λ (x : ℕ). writeCode (single x)) asSingle 128 refl b less
 
-pub command-again : (a b : ℕ) → 16 ≤ a → a < 32 → b < 128 → writeCode (code.Control (commandOf a b)) ≡ answer (pair (withParity a) (withParity b), 2)
-unfolding ones onesIn writeCode onLine controlBytes meaning commandOf
+pub command-again : (a b : ℕ) → 16 ≤ a → a < 32 → b < 128 → writeCode (code.Control (controlCodeOf a b)) ≡ answer (pair (withParity a) (withParity b), 2)
+unfolding ones onesIn writeCode onLine controlBytes meaning controlCodeOf
 command-again a b from below less =
-    agree-grid (λ (x y : ℕ). writeCode (code.Control (commandOf x y))) (λ (x y : ℕ). answer (pair (withParity x) (withParity y), 2)) 16 16 128 refl
+    agree-grid (λ (x y : ℕ). writeCode (code.Control (controlCodeOf x y))) (λ (x y : ℕ). answer (pair (withParity x) (withParity y), 2)) 16 16 128 refl
     a
     b
     from
@@ -59,14 +59,14 @@ command-range a e =
 abbrev writeBoth : Code × Code → Outcome Pair
 writeBoth codes = writeTwo (codes .0) (codes .1)
 
-again : (t : Bool) (a b : ℕ) → a < 128 → b < 128 → isCommand a ≡ t → writeBoth (cond t (code.Control (commandOf a b), code.Nul) (single a, single b)) ≡ answer (pair (withParity a) (withParity b))
+again : (t : Bool) (a b : ℕ) → a < 128 → b < 128 → isCommand a ≡ t → writeBoth (cond t (code.Control (controlCodeOf a b), code.Nul) (single a, single b)) ≡ answer (pair (withParity a) (withParity b))
 unfolding writeCode
 again true a b la lb e =
     let h = command-range a e in
     ap (λ (o : Outcome (Pair × ℕ)). together o (writeCode code.Nul)) (command-again a b (h .0) (h .1) lb)
 again false a b la lb e = rw (single-again a la, single-again b lb)
 
-pub stripped-again : (a b : ℕ) → a < 128 → b < 128 → writeTwo (codesOf a b .0) (codesOf a b .1) ≡ answer (pair (withParity a) (withParity b))
+pub stripped-again : (a b : ℕ) → a < 128 → b < 128 → writeTwo (codesOfBytes a b .0) (codesOfBytes a b .1) ≡ answer (pair (withParity a) (withParity b))
 stripped-again a b la lb = again (isCommand a) a b la lb refl
 
 -- what was read is written again
@@ -94,11 +94,11 @@ row-of-answer : (row : ℕ) (p q : Pair) (t : Bool) → leb row 14 ≡ t → con
 row-of-answer row p q true e is = omega (arith, leb-true row 14 e)
 row-of-answer row p q false e is = absurd (clash (sym is))
 
-pub row-that-was-read : (a b : ℕ) (p : PreambleAddressCode) → isCommand (stripped a) ≡ true → commandOf (stripped a) (stripped b) .control ≡ control.Preamble p → p .row < 15
+pub row-that-was-read : (a b : ℕ) (p : PreambleAddressCode) → isCommand (stripped a) ≡ true → controlCodeOf (stripped a) (stripped b) .control ≡ control.Preamble p → p .row < 15
 unfolding writeCode controlBytes
 row-that-was-read a b p is read =
     let range = command-range (stripped a) is in
-    let c = commandOf (stripped a) (stripped b) in
+    let c = controlCodeOf (stripped a) (stripped b) in
     let bytes = bytes-of-answer (c .field) (c .channel) (controlBytes (c .control)) _ (command-again (stripped a) (stripped b) (range .0) (range .1) (omega arith)) in
     row-of-answer (p .row) (preambleBytes p) (bytes .0) (leb (p .row) 14) refl (sym (ap controlBytes read) ∙ bytes .1)
 
@@ -135,7 +135,7 @@ read-by false codes = refl
 
 read-where-odd : (a b : ℕ) → isRead (readPair a b) ≡ passes a b
 unfolding readPair
-read-where-odd a b = read-by (passes a b) (codesOf (stripped a) (stripped b))
+read-where-odd a b = read-by (passes a b) (codesOfBytes (stripped a) (stripped b))
 
 pub pairs-that-are-read : countPairs (λ (a b : ℕ). isRead (readPair a b)) 256 256 ≡ 16384
 pairs-that-are-read = pairs-same (λ (a b : ℕ). isRead (readPair a b)) passes 256 256 read-where-odd ∙ odd-pairs

@@ -57,19 +57,19 @@ pub row-back : (row : ℕ) → row < 15 → firstPlace (samePair (rowPrefix row)
 row-back row less = agree (λ (x : ℕ). firstPlace (samePair (rowPrefix x)) rowPrefixes) (λ (x : ℕ). some x) 15 refl row less
 
 -- a character's first place is its only one, and no symbol is a standard character
-abbrev pub firstIn : List (Option ℕ) → Option ℕ → Option ℕ
-firstIn l none = none
-firstIn l (some c) = placeOf c l
+abbrev pub firstPlaceOf : List (Option ℕ) → Option ℕ → Option ℕ
+firstPlaceOf l none = none
+firstPlaceOf l (some c) = placeOf c l
 
-pub letter-once : (n : ℕ) → n < 96 → firstIn standard (getD standard n none) ≡ some n
+pub letter-once : (n : ℕ) → n < 96 → firstPlaceOf standard (getD standard n none) ≡ some n
 unfolding standard
-letter-once n less = agree (λ (x : ℕ). firstIn standard (getD standard x none)) (λ (x : ℕ). some x) 96 refl n less
+letter-once n less = agree (λ (x : ℕ). firstPlaceOf standard (getD standard x none)) (λ (x : ℕ). some x) 96 refl n less
 
 abbrev onlyAt : ℕ → Option ℕ → Option ℕ
 onlyAt n none = none
 onlyAt n (some c) = some n
 
-only-by : (n c : ℕ) (o : Option ℕ) → firstIn symbols o ≡ onlyAt n o → o ≡ some c → placeOf c symbols ≡ some n
+only-by : (n c : ℕ) (o : Option ℕ) → firstPlaceOf symbols o ≡ onlyAt n o → o ≡ some c → placeOf c symbols ≡ some n
 only-by n c none known e = absurd (Option·none-ne-some c e)
 only-by n c (some d) known e = ap (λ (x : ℕ). placeOf x symbols) (sym (Option·some-injective d c e)) ∙ known
 
@@ -77,8 +77,8 @@ pub symbol-once : (n c : ℕ) → n < 80 → getD symbols n none ≡ some c → 
 unfolding symbols
 symbol-once n c less e =
     only-by n c (getD symbols n none)
-    (agree (λ (x : ℕ). firstIn symbols (getD symbols x none)) (λ (x : ℕ). onlyAt x (getD symbols x none)) 80 refl n less) e
+    (agree (λ (x : ℕ). firstPlaceOf symbols (getD symbols x none)) (λ (x : ℕ). onlyAt x (getD symbols x none)) 80 refl n less) e
 
-pub symbol-apart : (n : ℕ) → n < 80 → firstIn standard (getD symbols n none) ≡ none
+pub symbol-apart : (n : ℕ) → n < 80 → firstPlaceOf standard (getD symbols n none) ≡ none
 unfolding standard symbols
-symbol-apart n less = agree (λ (x : ℕ). firstIn standard (getD symbols x none)) (λ (x : ℕ). none) 80 refl n less
+symbol-apart n less = agree (λ (x : ℕ). firstPlaceOf standard (getD symbols x none)) (λ (x : ℕ). none) 80 refl n less

@@ -14,7 +14,7 @@ use Rattle.code.specs.Parity.{isOdd, stripped, withParity}
 use Rattle.code.proofs.OneAnswer.{clash, same}
 use Rattle.code.specs.Letter.{letterAt}
 use Rattle.code.specs.Pair.{pair}
-use Rattle.code.specs.Read.{codesOf, commandOf, isCommand, readPair, single}
+use Rattle.code.specs.Read.{codesOfBytes, controlCodeOf, isCommand, readPair, single}
 use Rattle.code.specs.Write.{asCommand, asSingle, controlBytes, controlInDomain, inDomain, onLine, preambleBytes, writeCode}
 use Rattle.code.specs.declared.channel.Channel.{Channel}
 use Rattle.code.specs.declared.code.Code.{Code}
@@ -81,7 +81,7 @@ pub written-is-sent : (c : Code) (p : Pair) (n : ℕ) → writeCode c ≡ answer
 written-is-sent c p n e = subst (Good (byteLen c)) e (good c)
 
 -- a pair of odd parity is read as a command exactly where its first stripped byte is 10 to 1F
-pub read-as-command : (a b : ℕ) → isOdd a ≡ true → isOdd b ≡ true → isCommand (stripped a) ≡ true → readPair a b ≡ answer (code.Control (commandOf (stripped a) (stripped b)), code.Nul)
+pub read-as-command : (a b : ℕ) → isOdd a ≡ true → isOdd b ≡ true → isCommand (stripped a) ≡ true → readPair a b ≡ answer (code.Control (controlCodeOf (stripped a) (stripped b)), code.Nul)
 unfolding readPair
 read-as-command a b oa ob e = rw (oa, ob, e)
 
@@ -94,7 +94,7 @@ pub even-is-refused : (a b : ℕ) → (isOdd a && isOdd b) ≡ false → readPai
 unfolding readPair
 even-is-refused a b e = rw e
 
-pub odd-is-read : (a b : ℕ) → (isOdd a && isOdd b) ≡ true → readPair a b ≡ answer (codesOf (stripped a) (stripped b))
+pub odd-is-read : (a b : ℕ) → (isOdd a && isOdd b) ≡ true → readPair a b ≡ answer (codesOfBytes (stripped a) (stripped b))
 unfolding readPair
 odd-is-read a b e = rw e
 
@@ -151,14 +151,14 @@ single-is-no-command b c e = plain (eqb b 0) (leb 0x20 b) b c e
 
 -- so what is read as a command has a first byte of 10 to 1F
 first-of : (t : Bool) (a b : ℕ) → Code × Code
-first-of t a b = cond t (code.Control (commandOf a b), code.Nul) (single a, single b)
+first-of t a b = cond t (code.Control (controlCodeOf a b), code.Nul) (single a, single b)
 
 command-first : (t : Bool) (a b : ℕ) (c : ControlCode) → first-of t a b .0 ≡ code.Control c → t ≡ true
 unfolding first-of
 command-first true a b c e = refl
 command-first false a b c e = absurd (single-is-no-command a c e)
 
-read-passed : (t : Bool) (a b : ℕ) (c : ControlCode) (y : Code) → cond t (answer (codesOf a b)) (refused 1) ≡ answer (code.Control c, y) → isCommand a ≡ true
+read-passed : (t : Bool) (a b : ℕ) (c : ControlCode) (y : Code) → cond t (answer (codesOfBytes a b)) (refused 1) ≡ answer (code.Control c, y) → isCommand a ≡ true
 unfolding first-of
 read-passed true a b c y e = command-first (isCommand a) a b c (ap (λ (w : Code × Code). w .0) (same e))
 read-passed false a b c y e = absurd (clash (sym e))

@@ -1,8 +1,9 @@
 -- Control codes: the miscellaneous commands and the tab offsets, in the order of 47 CFR 79.101 (i). The field that a
 -- code may name is from CTA-608 as 01 has it; refusal 4 is 01's.
-use Prim.Native.Nat.{ℕ, _-_}
+use Prim.Native.Nat.{ℕ}
 use mathlib.Core.Bool.{cond}
 use mathlib.Core.List.{List, [], _∷_}
+use lib.Dec.{eqb}
 use lib.ListN.{getD}
 use Rattle.code.specs.Outcome.{Outcome, answer, refused}
 use Rattle.code.specs.Range.{within}
@@ -65,14 +66,10 @@ commandNumber CarriageReturn = 13
 commandNumber EraseNonDisplayedMemory = 14
 commandNumber EndOfCaption = 15
 
--- 17 21 to 17 23
-abbrev pub tabs : List Tab
-tabs = TabOffset1 ∷ TabOffset2 ∷ TabOffset3 ∷ []
+-- 17 21 to 17 23: a tab by the columns that it moves, 1 to 3
+abbrev pub tabOf : ℕ → Tab
+tabOf n = cond (eqb n 1) TabOffset1 (cond (eqb n 2) TabOffset2 TabOffset3)
 
-abbrev pub tabAt : ℕ → Tab
-tabAt n = getD tabs n TabOffset1
-
--- the columns that a tab moves by
 abbrev pub tabNumber : Tab → ℕ
 tabNumber TabOffset1 = 1
 tabNumber TabOffset2 = 2
@@ -80,7 +77,7 @@ tabNumber TabOffset3 = 3
 
 -- 4: a count other than 1, 2, 3
 abbrev pub tabOffset : ℕ → Outcome Control
-tabOffset n = cond (within 1 3 n) (answer (control.Tab (tabAt (n - 1)))) (refused 4)
+tabOffset n = cond (within 1 3 n) (answer (control.Tab (tabOf n))) (refused 4)
 
 abbrev pub tabOffsetOutcome : TabOffset → Outcome Control
 tabOffsetOutcome (Made c) = answer c

@@ -6,7 +6,7 @@ use mathlib.Core.Option.{Option, none, some}
 use lib.Dec.{eqb, leb}
 use Rattle.code.specs.Channel.{channelOne, channelTwo, fieldOne, fieldTwo}
 use Rattle.code.specs.Column.{columnAt}
-use Rattle.code.specs.Control.{commandAt, tabAt}
+use Rattle.code.specs.Control.{commandAt, tabOf}
 use Rattle.code.specs.Letter.{letterAt}
 use Rattle.code.specs.MidRow.{midRowAt}
 use Rattle.code.specs.Outcome.{Outcome, answer, refused}
@@ -79,7 +79,7 @@ meaning p b =
     (cond (isInRow Portuguese p b) (symbolIn Portuguese b)
     (cond (isInRow German p b) (symbolIn German b)
     (cond (eqb p 0x14 && within 0x20 0x2F b) (some (control.Command (commandAt (b - 0x20))))
-    (cond (eqb p 0x17 && within 0x21 0x23 b) (some (control.Tab (tabAt (b - 0x21)))) (preambleAt b (rowOf p b)))))))))
+    (cond (eqb p 0x17 && within 0x21 0x23 b) (some (control.Tab (tabOf (b - 0x20)))) (preambleAt b (rowOf p b)))))))))
 
 -- what has no meaning keeps its two stripped bytes, with the channel bit
 abbrev pub orUnknown : ℕ → ℕ → Option Control → Control
@@ -87,8 +87,8 @@ orUnknown a b none = control.Unknown a b
 orUnknown a b (some c) = c
 
 -- the control code of two stripped bytes
-unfoldable pub commandOf : ℕ → ℕ → ControlCode
-commandOf a b = record {
+unfoldable pub controlCodeOf : ℕ → ℕ → ControlCode
+controlCodeOf a b = record {
   field = fieldOf (withoutChannel a) b;
   channel = channelOf a;
   control = orUnknown a b (meaning (withoutField (withoutChannel a) b) b);
@@ -99,8 +99,8 @@ abbrev pub single : ℕ → Code
 single b = cond (eqb b 0) code.Nul (cond (leb 0x20 b) (code.Letter (letterAt (b - 0x20))) (code.Unknown b))
 
 -- the codes of two stripped bytes: a command and NUL, or two single codes
-abbrev pub codesOf : ℕ → ℕ → Code × Code
-codesOf a b = cond (isCommand a) (code.Control (commandOf a b), code.Nul) (single a, single b)
+abbrev pub codesOfBytes : ℕ → ℕ → Code × Code
+codesOfBytes a b = cond (isCommand a) (code.Control (controlCodeOf a b), code.Nul) (single a, single b)
 
 -- of a received pair: both bytes have odd parity; and its first byte is that of a control code
 abbrev pub isOddPair : Pair → Bool
@@ -111,7 +111,7 @@ isCommandPair p = isCommand (stripped (p .0))
 
 -- the codes of a received pair; 1: a byte with an even count of ones
 unfoldable pub readPair : ℕ → ℕ → Outcome (Code × Code)
-readPair a b = cond (isOdd a && isOdd b) (answer (codesOf (stripped a) (stripped b))) (refused 1)
+readPair a b = cond (isOdd a && isOdd b) (answer (codesOfBytes (stripped a) (stripped b))) (refused 1)
 
 abbrev pub fromDataOutcome : FromData → Outcome (Code × Code)
 fromDataOutcome (Codes x y) = answer (x, y)

@@ -8,7 +8,7 @@ use mathlib.Core.Option.{Option, none, some}
 use lib.Dec.{eqb, ltb}
 use lib.ListN.{getD, replicate}
 use Rattle.code.specs.Characters.{standard, symbols, special, spanish, french, portuguese, german}
-use Rattle.code.specs.Control.{commandAt, tabAt}
+use Rattle.code.specs.Control.{commandAt, tabOf}
 use Rattle.code.specs.Letter.{letterAt}
 use Rattle.code.specs.Pair.{pair}
 use Rattle.code.specs.Range.{within}
@@ -32,17 +32,17 @@ bytesOf e = e / 65536
 abbrev pub pointOf : ℕ → ℕ
 pointOf e = e % 65536
 
-abbrev pub entryPoint : ℕ → Option ℕ
-entryPoint e = cond (eqb (pointOf e) 0) none (some (pointOf e))
-
--- 0 where there is none
+-- 0 where there is none, and back
 abbrev pub orZero : Option ℕ → ℕ
 orZero none = 0
 orZero (some c) = c
 
+abbrev pub pointOrNone : ℕ → Option ℕ
+pointOrNone n = cond (eqb n 0) none (some n)
+
 -- two bytes as one number, and back
-abbrev pub packed : Pair → ℕ
-packed p = p .0 * 256 + p .1
+abbrev pub bothBytes : Pair → ℕ
+bothBytes p = p .0 * 256 + p .1
 
 abbrev pub twoBytes : ℕ → Pair
 twoBytes n = pair (n / 256) (n % 256)
@@ -59,9 +59,9 @@ codeEntries = 0 ∷ entries 0x20 standard
 -- the symbols, the commands 14 20 to 14 2F and the tabs 17 21 to 17 23
 unfoldable pub controlEntries : List ℕ
 controlEntries =
-    entries (packed (symbolBase Special)) special ++ entries (packed (symbolBase Spanish)) spanish
-    ++ entries (packed (symbolBase French)) french ++ entries (packed (symbolBase Portuguese)) portuguese
-    ++ entries (packed (symbolBase German)) german ++ entries 0x1420 (replicate 16 none)
+    entries (bothBytes (symbolBase Special)) special ++ entries (bothBytes (symbolBase Spanish)) spanish
+    ++ entries (bothBytes (symbolBase French)) french ++ entries (bothBytes (symbolBase Portuguese)) portuguese
+    ++ entries (bothBytes (symbolBase German)) german ++ entries 0x1420 (replicate 16 none)
     ++ entries 0x1721 (replicate 3 none)
 
 -- the code points of the standard characters, then of the symbols
@@ -74,7 +74,7 @@ codeAt i = cond (eqb i 0) code.Nul (code.Letter (letterAt (i - 1)))
 abbrev pub controlAt : ℕ → Control
 controlAt i =
     cond (ltb i 80) (control.Symbol (symbolAt i))
-    (cond (ltb i 96) (control.Command (commandAt (i - 80))) (control.Tab (tabAt (i - 96))))
+    (cond (ltb i 96) (control.Command (commandAt (i - 80))) (control.Tab (tabOf (i - 95))))
 
 abbrev pub foundAt : Option ℕ → Found
 foundAt none = Absent
@@ -90,4 +90,4 @@ meaningOf (some c) = meant.Of c
 
 -- the tab of a second byte after 17
 abbrev pub tabIn : ℕ → Option Control
-tabIn b = cond (within 0x21 0x23 b) (some (control.Tab (tabAt (b - 0x21)))) none
+tabIn b = cond (within 0x21 0x23 b) (some (control.Tab (tabOf (b - 0x20)))) none

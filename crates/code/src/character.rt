@@ -2,7 +2,7 @@
 ghost use mathlib.Core.Path.{_≡_};
 ghost use mathlib.Core.Option.{none};
 ghost use lib.ListN.{getD};
-ghost use Rattle.code.specs.Tables.{entryPoint};
+ghost use Rattle.code.specs.Tables.{pointOrNone};
 ghost use Rattle.code.specs.Code.{charOf, controlChar, characterOutcome, fromChar, fromCharOutcome, symbolCode};
 ghost use Rattle.code.specs.Characters.{placeOf, standard, symbols};
 ghost use Rattle.code.specs.Letter.{letterPlace};
@@ -33,11 +33,10 @@ pub enum FromChar {
 }
 
 impl Character {
-    // An entry's code point, 0 where it has none.
-    pub(crate) fn from_entry(entry: u32) -> Character
-        ensures { λ r. ⌜ characterOutcome r ≡ entryPoint entry ⌝ }
+    // The character of a code point, 0 standing for none.
+    pub(crate) fn from_point(point: u32) -> Character
+        ensures { λ r. ⌜ characterOutcome r ≡ pointOrNone point ⌝ }
     {
-        let point = entry % 65536;
         if point == 0 {
             Character::Absent
         } else {
@@ -60,7 +59,7 @@ impl Symbol {
     pub(crate) fn char(self) -> Character
         ensures { λ r. ⌜ characterOutcome r ≡ getD symbols (symbolPlace self) none ⌝ }
     {
-        Character::from_entry(point_at(96 + self.place()))
+        Character::from_point(point_at(96 + self.place()))
     }
 }
 

@@ -1,7 +1,7 @@
 // Control codes: what their two bytes mean, channel and field aside.
 ghost use mathlib.Core.Path.{_≡_};
 ghost use Prim.Native.Nat.{_<_};
-ghost use Rattle.code.specs.Control.{commandAt, commandNumber, tabAt, tabNumber, tabOffset, tabOffsetOutcome};
+ghost use Rattle.code.specs.Control.{commandAt, commandNumber, tabNumber, tabOffset, tabOffsetOutcome};
 ghost use Rattle.code.specs.Control.{controlCode, channelIn, fieldIn, controlIn};
 ghost use Rattle.code.specs.Range.{within};
 use crate::channel::Channel;
@@ -140,18 +140,6 @@ impl Command {
 }
 
 impl Tab {
-    // The tab of a number below 3, from 0 for 17 21.
-    pub(crate) fn at(n: u8) -> Tab
-        requires { ⌜ n < 3 ⌝ }
-        ensures { λ r. ⌜ r ≡ tabAt n ⌝ }
-    {
-        match n {
-            0 => Tab::TabOffset1,
-            1 => Tab::TabOffset2,
-            _ => Tab::TabOffset3,
-        }
-    }
-
     // The columns that the cursor moves, 1 to 3.
     pub fn number(self) -> u8
         ensures { λ r. ⌜ r ≡ tabNumber self ⌝ }

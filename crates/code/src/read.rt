@@ -1,7 +1,7 @@
 // Reading a pair: what was received becomes a command, or two single codes.
 ghost use mathlib.Core.Path.{_≡_};
 ghost use Prim.Native.Nat.{_≤_, _<_, _%_};
-ghost use Rattle.code.specs.Read.{readPair, fromDataOutcome, single, channelOf, commandOf, fieldOf, withoutField, meaning, symbolIn};
+ghost use Rattle.code.specs.Read.{readPair, fromDataOutcome, single, channelOf, controlCodeOf, fieldOf, withoutField, meaning, symbolIn};
 ghost use Rattle.code.specs.Tables.{firstRowAt, meaningOf, tabIn};
 use crate::channel::Channel;
 use crate::channel::Field;
@@ -82,7 +82,7 @@ impl ControlCode {
     // The control code of two stripped bytes, for the channel that the first names.
     pub(crate) fn parse(channel: Channel, first: u8, second: u8) -> ControlCode
         requires { ⌜ (16 ≤ first) × (first < 32) × (second < 128) × (channel ≡ channelOf first) ⌝ }
-        ensures { λ r. ⌜ r ≡ commandOf first second ⌝ }
+        ensures { λ r. ⌜ r ≡ controlCodeOf first second ⌝ }
     {
         let prefix = first % 8 + 0x10;
         let field = field_of(prefix, second);
@@ -177,13 +177,11 @@ impl Control {
     pub(crate) fn parse_tab(second: u8) -> Meaning
         ensures { λ r. ⌜ r ≡ meaningOf (tabIn second) ⌝ }
     {
-        if second < 0x21 {
-            return Meaning::Absent;
-        }
-        if second <= 0x23 {
-            Meaning::Of(Control::Tab(Tab::at(second - 0x21)))
-        } else {
-            Meaning::Absent
+        match second {
+            0x21 => Meaning::Of(Control::Tab(Tab::TabOffset1)),
+            0x22 => Meaning::Of(Control::Tab(Tab::TabOffset2)),
+            0x23 => Meaning::Of(Control::Tab(Tab::TabOffset3)),
+            _ => Meaning::Absent,
         }
     }
 

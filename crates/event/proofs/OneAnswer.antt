@@ -50,9 +50,9 @@ into-code-injective into.NoSuchFirst (into.Codes x y) e = let z : _≡_ {A = ℕ
 into-code-injective into.NoSuchFirst into.NoSuchRow e = let z : _≡_ {A = ℕ} 0 1 = cc in absurd (omega arith)
 into-code-injective into.NoSuchFirst into.NoSuchTab e = let z : _≡_ {A = ℕ} 0 1 = cc in absurd (omega arith)
 into-code-injective into.NoSuchFirst into.NoSuchFirst e = refl
-into-code-injective into.NoSuchFirst into.NoSuchSecond e = let z : _≡_ {A = ℕ} 1 2 = cc in absurd (omega arith)
+into-code-injective into.NoSuchFirst into.NoSuchSecond e = let z : _≡_ {A = ℕ} 0 1 = cc in absurd (omega arith)
 into-code-injective into.NoSuchSecond (into.Codes x y) e = let z : _≡_ {A = ℕ} 0 1 = cc in absurd (omega arith)
 into-code-injective into.NoSuchSecond into.NoSuchRow e = let z : _≡_ {A = ℕ} 0 1 = cc in absurd (omega arith)
 into-code-injective into.NoSuchSecond into.NoSuchTab e = let z : _≡_ {A = ℕ} 0 1 = cc in absurd (omega arith)
-into-code-injective into.NoSuchSecond into.NoSuchFirst e = let z : _≡_ {A = ℕ} 2 1 = cc in absurd (omega arith)
+into-code-injective into.NoSuchSecond into.NoSuchFirst e = let z : _≡_ {A = ℕ} 0 1 = cc in absurd (omega arith)
 into-code-injective into.NoSuchSecond into.NoSuchSecond e = refl

@@ -16,7 +16,7 @@ use Rattle.code.specs.Outcome.{answer, refused}
 use Rattle.code.specs.Range.{within}
 use Rattle.code.specs.declared.channel.Channel.{Channel}
 use Rattle.code.specs.declared.channel.Field.{Field}
-use Rattle.event.specs.Id.{channelOfId, fieldOfId, fromValue, idOf, serviceAt}
+use Rattle.event.specs.Id.{channelOfId, fieldOfId, fromValue, idOf, serviceOf}
 use Rattle.event.specs.Services.{serviceNumber}
 use Rattle.event.specs.declared.id.Id.{Id}
 use Rattle.event.specs.declared.id.Id.the-variants.{CC1, CC2, CC3, CC4}
@@ -38,8 +38,8 @@ pub field-and-channel-back : (f : Field) (ch : Channel) → (fieldOfId (idOf f c
 field-and-channel-back f ch = by-parts (f .0) (ch .0)
 
 -- the number of a service
-abbrev numberIn : Id → ℕ
-numberIn i = serviceNumber (fieldOfId i) (channelOfId i)
+abbrev valueOf : Id → ℕ
+valueOf i = serviceNumber (fieldOfId i) (channelOfId i)
 
 numbered : (f ch : Bool) → fromValue (pos (serviceNumber (record { 0 = f }) (record { 0 = ch }))) ≡ answer (idOf (record { 0 = f }) (record { 0 = ch }))
 numbered true true = refl
@@ -47,16 +47,16 @@ numbered true false = refl
 numbered false true = refl
 numbered false false = refl
 
-its-number : (n : ℕ) → 1 ≤ n → n ≤ 4 → numberIn (serviceAt n) ≡ n
-its-number n from to = agree-from (λ (x : ℕ). numberIn (serviceAt x)) (λ (x : ℕ). x) 1 4 refl n from (omega arith)
+its-number : (n : ℕ) → 1 ≤ n → n ≤ 4 → valueOf (serviceOf n) ≡ n
+its-number n from to = agree-from (λ (x : ℕ). valueOf (serviceOf x)) (λ (x : ℕ). x) 1 4 refl n from (omega arith)
 
-value-by : (n : ℕ) (i : Id) (t : Bool) → within 1 4 n ≡ t → cond t (answer (serviceAt n)) (refused 6) ≡ answer i → n ≡ numberIn i
+value-by : (n : ℕ) (i : Id) (t : Bool) → within 1 4 n ≡ t → cond t (answer (serviceOf n)) (refused 6) ≡ answer i → n ≡ valueOf i
 value-by n i true inside e =
     let range = both-true (leb 1 n) (leb n 4) inside in
-    sym (its-number n (leb-true 1 n (range .0)) (leb-true n 4 (range .1))) ∙ ap numberIn (same e)
+    sym (its-number n (leb-true 1 n (range .0)) (leb-true n 4 (range .1))) ∙ ap valueOf (same e)
 value-by n i false outside e = absurd (clash (sym e))
 
-number-of : (z : ℤ) (i : Id) → fromValue z ≡ answer i → z ≡ pos (numberIn i)
+number-of : (z : ℤ) (i : Id) → fromValue z ≡ answer i → z ≡ pos (valueOf i)
 number-of (pos n) i e = ap pos (value-by n i (within 1 4 n) refl e)
 number-of (negsuc n) i e = absurd (clash (sym e))
 

@@ -1,9 +1,8 @@
 -- The caption services and refusal 6, from 01: 1 and 2 are channels one and two of field one, 3 and 4 of field two.
-use Prim.Native.Nat.{ℕ, _-_}
+use Prim.Native.Nat.{ℕ}
 use mathlib.Core.Bool.{cond}
-use mathlib.Core.List.{[], _∷_}
 use lib.IntN.{ℤ, pos, negsuc}
-use lib.ListN.{getD}
+use lib.Dec.{eqb}
 use Rattle.code.specs.Channel.{channelOne, channelTwo, fieldOne, fieldTwo}
 use Rattle.code.specs.Outcome.{Outcome, answer, refused}
 use Rattle.code.specs.Range.{within}
@@ -29,12 +28,12 @@ channelOfId CC2 = channelTwo
 channelOfId CC3 = channelOne
 channelOfId CC4 = channelTwo
 
--- the services by their numbers, from 1; 6: a value outside 1 to 4
-abbrev pub serviceAt : ℕ → Id
-serviceAt n = getD (CC1 ∷ CC2 ∷ CC3 ∷ CC4 ∷ []) (n - 1) CC1
+-- the services by their numbers, 1 to 4; 6: a value outside these
+abbrev pub serviceOf : ℕ → Id
+serviceOf n = cond (eqb n 1) CC1 (cond (eqb n 2) CC2 (cond (eqb n 3) CC3 CC4))
 
 abbrev pub fromValue : ℤ → Outcome Id
-fromValue (pos n) = cond (within 1 4 n) (answer (serviceAt n)) (refused 6)
+fromValue (pos n) = cond (within 1 4 n) (answer (serviceOf n)) (refused 6)
 fromValue (negsuc n) = refused 6
 
 abbrev pub fromValueOutcome : FromValue → Outcome Id

@@ -22,16 +22,15 @@ use Rattle.event.specs.Mode.{commandOf}
 use Rattle.event.specs.declared.event.Cea608.{Cea608}
 use Rattle.event.specs.declared.event.Cea608.the-variants as event
 use Rattle.event.specs.declared.event.Text.{Text}
-use Rattle.event.specs.declared.into_code.CharacterCode.{CharacterCode}
-use Rattle.event.specs.declared.into_code.CharacterCode.the-variants as made
 use Rattle.event.specs.declared.into_code.IntoCode.{IntoCode}
 use Rattle.event.specs.declared.into_code.IntoCode.the-variants as into
 
--- two codes, or 01's number of a refusal; for a character also whether it is the first or the second
+-- two codes, or 01's number of a refusal, which can be for the first or for the second character
 pub data Turned : Type 0 where
   codes : Code → Code → Turned
   refusal : ℕ → Turned
-  no-character : ℕ → ℕ → Turned
+  no-first : ℕ → Turned
+  no-second : ℕ → Turned
 
 -- a control code and NUL
 abbrev pub alone : Field → Channel → Control → Turned
@@ -55,13 +54,13 @@ abbrev pub characterCode : Character → Channel → Outcome Code
 characterCode (character.Point c) ch = fromChar c ch
 characterCode character.Absent ch = answer code.Nul
 
-abbrev pub behind : Code → Outcome Code → Turned
-behind x (answer y) = codes x y
-behind x (refused n) = no-character 2 n
+abbrev pub withSecond : Code → Outcome Code → Turned
+withSecond x (answer y) = codes x y
+withSecond x (refused n) = no-second n
 
 abbrev pub inOrder : Outcome Code → Outcome Code → Turned
-inOrder (answer x) second = behind x second
-inOrder (refused n) second = no-character 1 n
+inOrder (answer x) second = withSecond x second
+inOrder (refused n) second = no-first n
 
 abbrev pub textCodes : Text → Turned
 textCodes t = inOrder (characterCode (t .char1) (t .channel)) (characterCode (t .char2) (t .channel))
@@ -83,9 +82,5 @@ abbrev pub intoCodeOutcome : IntoCode → Turned
 intoCodeOutcome (into.Codes x y) = codes x y
 intoCodeOutcome into.NoSuchRow = refusal 3
 intoCodeOutcome into.NoSuchTab = refusal 4
-intoCodeOutcome into.NoSuchFirst = no-character 1 5
-intoCodeOutcome into.NoSuchSecond = no-character 2 5
-
-abbrev pub characterCodeOutcome : CharacterCode → Outcome Code
-characterCodeOutcome (made.Made x) = answer x
-characterCodeOutcome made.NoSuchCharacter = refused 5
+intoCodeOutcome into.NoSuchFirst = no-first 5
+intoCodeOutcome into.NoSuchSecond = no-second 5

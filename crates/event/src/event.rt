@@ -1,6 +1,6 @@
 // The events, as the crate names them.
 ghost use mathlib.Core.Path.{_≡_};
-ghost use Rattle.event.specs.Event.{channelIn};
+ghost use Rattle.event.specs.Event.{channelOfEvent};
 use crate::mode::Mode;
 use code::Channel;
 use code::Character;
@@ -44,7 +44,7 @@ pub enum Cea608 {
 impl Cea608 {
     // The channel that the event is for.
     pub fn channel(self) -> Channel
-        ensures { λ r. ⌜ r ≡ channelIn self ⌝ }
+        ensures { λ r. ⌜ r ≡ channelOfEvent self ⌝ }
     {
         match self {
             Cea608::Text(text) => text.channel,

@@ -1,7 +1,8 @@
 // An event turned into the codes that encode it.
 ghost use mathlib.Core.Path.{_≡_};
 ghost use Rattle.event.specs.IntoCode.{codesOf, intoCodeOutcome, textCodes, tabCodes, preambleCodes, alone, commandAlone};
-ghost use Rattle.event.specs.IntoCode.{characterCode, characterCodeOutcome};
+ghost use Rattle.event.specs.IntoCode.{characterCode};
+ghost use Rattle.code.specs.Code.{fromCharOutcome};
 use crate::event::Cea608;
 use crate::event::Text;
 use code::Channel;
@@ -24,12 +25,6 @@ pub enum IntoCode {
     NoSuchTab,
     NoSuchFirst,
     NoSuchSecond,
-}
-
-// The code of a character that may be absent.
-pub(crate) enum CharacterCode {
-    Made(Code),
-    NoSuchCharacter,
 }
 
 impl Cea608 {
@@ -127,10 +122,10 @@ impl Text {
         let char1 = self.char1;
         let char2 = self.char2;
         let channel = self.channel;
-        let CharacterCode::Made(first) = character_code(char1, channel) else {
+        let FromChar::Made(first) = character_code(char1, channel) else {
             return IntoCode::NoSuchFirst;
         };
-        let CharacterCode::Made(second) = character_code(char2, channel) else {
+        let FromChar::Made(second) = character_code(char2, channel) else {
             return IntoCode::NoSuchSecond;
         };
         IntoCode::Codes(first, second)
@@ -138,14 +133,11 @@ impl Text {
 }
 
 // The code of a character, NUL for none.
-pub(crate) fn character_code(character: Character, channel: Channel) -> CharacterCode
-    ensures { λ r. ⌜ characterCodeOutcome r ≡ characterCode character channel ⌝ }
+pub(crate) fn character_code(character: Character, channel: Channel) -> FromChar
+    ensures { λ r. ⌜ fromCharOutcome r ≡ characterCode character channel ⌝ }
 {
     match character {
-        Character::Point(point) => match Code::from_char(point, channel) {
-            FromChar::Made(code) => CharacterCode::Made(code),
-            FromChar::NoSuchCharacter => CharacterCode::NoSuchCharacter,
-        },
-        Character::Absent => CharacterCode::Made(Code::Nul),
+        Character::Point(point) => Code::from_char(point, channel),
+        Character::Absent => FromChar::Made(Code::Nul),
     }
 }

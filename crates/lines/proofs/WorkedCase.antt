@@ -5,7 +5,7 @@ use mathlib.Core.Path.{_≡_, refl}
 use Prim.Native.Nat.{ℕ}
 use lib.Count.{ones, onesIn}
 use Rattle.code.specs.Characters.{points, standard, symbols}
-use Rattle.code.specs.Read.{commandOf, meaning, readPair}
+use Rattle.code.specs.Read.{controlCodeOf, meaning, readPair}
 use Rattle.lines.specs.Listing.{listing}
 use Rattle.receiver.specs.Receiver.{step}
 use Rattle.receiver.specs.Heard.{eventOf, textEvent}
@@ -29,5 +29,5 @@ text =
     ∷ points "8 text 1 0 266A -" ∷ points "9 text 1 1 00C1 -" ∷ points "10 mode 2 pop" ∷ points "11 refused 9" ∷ points "pairs 11 refused 2" ∷ [])
 
 pub worked-case : listing input ≡ text
-unfolding listing decimal ones onesIn standard symbols readPair step eventOf textEvent modeOf charOf meaning commandOf
+unfolding listing decimal ones onesIn standard symbols readPair step eventOf textEvent modeOf charOf meaning controlCodeOf
 worked-case = refl

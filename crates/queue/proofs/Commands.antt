@@ -17,7 +17,7 @@ use Rattle.code.specs.Channel.{channelOne}
 use Rattle.code.specs.Code.{byteLen}
 use Rattle.code.specs.Letter.{letterAt}
 use Rattle.code.specs.Outcome.{Outcome, answer, refused}
-use Rattle.code.specs.Read.{commandOf, isCommandPair, meaning, readPair}
+use Rattle.code.specs.Read.{controlCodeOf, isCommandPair, meaning, readPair}
 use Rattle.code.specs.Pair.{pair}
 use Rattle.code.specs.Write.{inDomain, isCommandCode, isCommandControl, writeCode}
 use Rattle.code.specs.declared.code.Code.{Code}
@@ -147,5 +147,5 @@ row-13-underlined = code.Control (record {
 pub half-a-command-makes-a-command :
     (listReplies (pushing (code.Unknown 0x14) ∷ pushing letter-A ∷ popping ∷ []) empty ≡ accepted ∷ accepted ∷ toPop (answer (pair 0x94 0xC1)) ∷ [])
     × (readPair 0x94 0xC1 ≡ answer (row-13-underlined, code.Nul))
-unfolding ones onesIn writeCode inDomain queueable admit pairOf pop readPair meaning commandOf
+unfolding ones onesIn writeCode inDomain queueable admit pairOf pop readPair meaning controlCodeOf
 half-a-command-makes-a-command = (refl, refl)

@@ -10,7 +10,7 @@ use Rattle.code.specs.Outcome.{Outcome}
 use Rattle.code.specs.declared.code.Code.{Code}
 use Rattle.code.specs.declared.pair.Pair.{Pair}
 use Rattle.queue.proofs.Fit.{at-most-65}
-use Rattle.queue.proofs.Order.{pop-takes-from-the-front, push-puts-behind}
+use Rattle.queue.proofs.Order.{pop-takes-from-the-front, push-puts-after}
 use Rattle.queue.proofs.Refines.{count-refines, fresh-good, good-fits, pop-good, pop-refines, push-good, push-refines}
 use Rattle.queue.proofs.WellFormed.{formed}
 use Rattle.queue.specs.Calls.{Call, pushing, popping, counting, resetting, Reply, toPush, toPop, toCount, History, recorded, recordedAll, begun, letIn, listReplies, onList, onRing, ringAfter, ringReplies, takenBy}
@@ -79,7 +79,7 @@ push-kept x h k =
       order =
           ap₂ (λ (l : List Code) (o : Outcome Unit). l ++ letIn x o) (k .order) seen-first
           ∙ append-assoc (h .took) (inside (view q)) (letIn x (push x (view q) .0))
-          ∙ ap (λ (l : List Code). h .took ++ l) (sym (push-puts-behind x (view q)))
+          ∙ ap (λ (l : List Code). h .took ++ l) (sym (push-puts-after x (view q)))
           ∙ ap (λ (v : Queued). h .took ++ inside v) (sym seen-next);
     }
 

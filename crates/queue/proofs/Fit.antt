@@ -37,20 +37,20 @@ pub stored-may-wait : (c : Code) (n : ℕ) → admit c n ≡ answer true → may
 unfolding admit
 stored-may-wait c n e = kept (isNul c) (queueable c) (isFull n) e
 
-all-behind : (l : List Code) (c : Code) → allMayWait l ≡ true → mayWait c ≡ true → allMayWait (l ++ (c ∷ [])) ≡ true
-all-behind [] c all one = rw one
-all-behind (x ∷ l) c all one =
+all-after : (l : List Code) (c : Code) → allMayWait l ≡ true → mayWait c ≡ true → allMayWait (l ++ (c ∷ [])) ≡ true
+all-after [] c all one = rw one
+all-after (x ∷ l) c all one =
     let first = both-left (mayWait x) (allMayWait l) all in
-    rw first (all-behind l c (both-right (mayWait x) (allMayWait l) all) one)
+    rw first (all-after l c (both-right (mayWait x) (allMayWait l) all) one)
 
-one-behind : (l : List Code) (c : Code) → length (l ++ (c ∷ [])) ≡ length l + 1
-one-behind l c = length-append l (c ∷ [])
+one-after : (l : List Code) (c : Code) → length (l ++ (c ∷ [])) ≡ length l + 1
+one-after l c = length-append l (c ∷ [])
 
 entered-fits : (o : Outcome Bool) (c : Code) (v : Queued) → admit c (length (v .waiting)) ≡ o → Fit v → Fit (entered o (queued (v .waiting ++ (c ∷ [])) (v .held)) v .1)
 entered-fits (answer true) c v e f = record {
-  size = omega (arith, one-behind (v .waiting) c, stored-has-room c (length (v .waiting)) e);
+  size = omega (arith, one-after (v .waiting) c, stored-has-room c (length (v .waiting)) e);
   held = f .held;
-  codes = all-behind (v .waiting) c (f .codes) (stored-may-wait c (length (v .waiting)) e);
+  codes = all-after (v .waiting) c (f .codes) (stored-may-wait c (length (v .waiting)) e);
 }
 entered-fits (answer false) c v e f = f
 entered-fits (refused n) c v e f = f
@@ -73,21 +73,21 @@ fit s = record { size = omega (arith, s .size); held = refl; codes = s .codes }
 fit-holding : {n : ℕ} {l : List Code} (c : Code) → mayBeHeld c ≡ true → Spare n l → Fit (queued l (some c))
 fit-holding c may s = record { size = omega (arith, s .size); held = may; codes = s .codes }
 
-behind : (x : Code) (n : ℕ) (l : List Code) → Spare n (x ∷ l) → Spare (suc n) l
-behind x n l s = record { size = omega (arith, s .size); codes = both-right (mayWait x) (allMayWait l) (s .codes) }
+rest-spare : (x : Code) (n : ℕ) (l : List Code) → Spare n (x ∷ l) → Spare (suc n) l
+rest-spare x n l s = record { size = omega (arith, s .size); codes = both-right (mayWait x) (allMayWait l) (s .codes) }
 
 first-may : (x : Code) (n : ℕ) (l : List Code) → Spare n (x ∷ l) → mayWait x ≡ true
 first-may x n l s = both-left (mayWait x) (allMayWait l) (s .codes)
 
 command-fits : (x : Code) (rest : List Code) (t : Bool) → needsBackspace x ≡ t → isSingle x ≡ false → Spare 0 (x ∷ rest) → Fit (popCommand x rest .next)
-command-fits x rest true e single s = rw e (fit-holding x (command-may-be-held x single (first-may x 0 rest s)) (behind x 0 rest s))
-command-fits x rest false e single s = rw e (fit (behind x 0 rest s))
+command-fits x rest true e single s = rw e (fit-holding x (command-may-be-held x single (first-may x 0 rest s)) (rest-spare x 0 rest s))
+command-fits x rest false e single s = rw e (fit (rest-spare x 0 rest s))
 
 two-fit : (x y : Code) (rest : List Code) (t : Bool) → isSingle y ≡ t → Spare 0 (x ∷ y ∷ rest) → Fit (popTwo x y rest .next)
-two-fit x y rest true e s = rw e (fit (behind y 1 rest (behind x 0 (y ∷ rest) s)))
+two-fit x y rest true e s = rw e (fit (rest-spare y 1 rest (rest-spare x 0 (y ∷ rest) s)))
 two-fit x y rest false e s =
-    let s1 = behind x 0 (y ∷ rest) s in
-    rw e (fit-holding y (command-may-be-held y e (first-may y 1 rest s1)) (behind y 1 rest s1))
+    let s1 = rest-spare x 0 (y ∷ rest) s in
+    rw e (fit-holding y (command-may-be-held y e (first-may y 1 rest s1)) (rest-spare y 1 rest s1))
 
 single-fits : (x : Code) (rest : List Code) → Spare 0 (x ∷ rest) → Fit (popSingle x rest .next)
 single-fits x [] s = empty-fits

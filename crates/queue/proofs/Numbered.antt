@@ -42,14 +42,14 @@ pub as-single : (n : ℕ) → 0x8000 ≤ n → codeOf n ≡ singleOf (n / 128 % 
 unfolding codeOf
 as-single n from = rw (le-leb 0x8000 n from) refl
 
-abbrev pub commandIn : ℕ → ControlCode
-commandIn n = record {
+abbrev pub commandOfNumber : ℕ → ControlCode
+commandOfNumber n = record {
   field = fieldOfNumber n;
   channel = channelOfNumber n;
   control = controlOf (n / 0x800 % 2) (firstIn n) (secondIn n);
 }
 
-pub as-command : (n : ℕ) → n < 0x8000 → codeOf n ≡ code.Control (commandIn n)
+pub as-command : (n : ℕ) → n < 0x8000 → codeOf n ≡ code.Control (commandOfNumber n)
 unfolding codeOf
 as-command n below = rw (lt-leb 0x8000 n below) refl
 
@@ -65,7 +65,7 @@ length-by false c s e = refl
 pub length-told : (n : ℕ) → isSingle (codeOf n) ≡ leb 0x8000 n
 unfolding codeOf
 length-told n =
-    length-by (leb 0x8000 n) (commandIn n) (singleOf (n / 128 % 2) (secondIn n))
+    length-by (leb 0x8000 n) (commandOfNumber n) (singleOf (n / 128 % 2) (secondIn n))
     (single-has-one (eqb (n / 128 % 2) 0 && leb 0x20 (secondIn n)) (letterAt (secondIn n - 0x20)) (secondIn n))
 
 pub single-from : (n : ℕ) → isSingle (codeOf n) ≡ true → 0x8000 ≤ n
@@ -93,7 +93,7 @@ bytes-by true a b from below less =
     agree-grid (λ (x y : ℕ). controlBytes (meantBy x y)) (λ (x y : ℕ). answer (pair x y)) 16 16 128 refl a b from below less
 bytes-by false a b from below less = rw (lt-ltb a 0x80 (omega arith), lt-ltb b 0x80 less) refl
 
-pub bytes-told : (n : ℕ) → controlBytes (commandIn n .control) ≡ answer (pair (firstIn n) (secondIn n))
+pub bytes-told : (n : ℕ) → controlBytes (commandOfNumber n .control) ≡ answer (pair (firstIn n) (secondIn n))
 bytes-told n = bytes-by (eqb (n / 0x800 % 2) 0) (firstIn n) (secondIn n) (first-from n) (first-below n) (second-below n)
 
 -- and may be queued
@@ -136,7 +136,7 @@ may-by false c s single command = ap isAnswer (control-may c ∙ command)
 pub every-number-may-wait : (n : ℕ) → mayWait (codeOf n) ≡ true
 unfolding codeOf
 every-number-may-wait n =
-    may-by (leb 0x8000 n) (commandIn n) (singleOf (n / 128 % 2) (secondIn n))
+    may-by (leb 0x8000 n) (commandOfNumber n) (singleOf (n / 128 % 2) (secondIn n))
     (single-may (eqb (n / 128 % 2) 0 && leb 0x20 (secondIn n)) (letterAt (secondIn n - 0x20)) (secondIn n) (second-below n))
     (control-by (eqb (n / 0x800 % 2) 0) (firstIn n) (secondIn n) (first-from n) (first-below n) (second-below n))
 
@@ -145,7 +145,7 @@ pub command-of-number : (n : ℕ) → n < 0x8000 → pairOf (codeOf n) ≡ onLin
 unfolding pairOf
 command-of-number n below =
     ap (λ (c : Code). pairWritten (writeCode c)) (as-command n below)
-    ∙ ap pairWritten (control-written (commandIn n) (pair (firstIn n) (secondIn n)) (bytes-told n))
+    ∙ ap pairWritten (control-written (commandOfNumber n) (pair (firstIn n) (secondIn n)) (bytes-told n))
 
 letter-byte : (b : ℕ) → 32 ≤ b → b < 128 → 0x20 + letterPlace (letterAt (b - 0x20)) ≡ b
 letter-byte b from below = agree-from (λ (x : ℕ). 0x20 + letterPlace (letterAt (x - 0x20))) (λ (x : ℕ). x) 32 96 refl b from below

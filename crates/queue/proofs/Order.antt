@@ -66,5 +66,5 @@ entered-behind (answer true) c v e =
 entered-behind (answer false) c v e = rw (passed-is-nul c (length (v .waiting)) e) (sym (append-nil (inside v)))
 entered-behind (refused n) c v e = sym (append-nil (inside v))
 
-pub push-puts-behind : (c : Code) (v : Queued) → inside (push c v .1) ≡ inside v ++ letIn c (push c v .0)
-push-puts-behind c v = entered-behind (admit c (length (v .waiting))) c v refl
+pub push-puts-after : (c : Code) (v : Queued) → inside (push c v .1) ≡ inside v ++ letIn c (push c v .0)
+push-puts-after c v = entered-behind (admit c (length (v .waiting))) c v refl

@@ -14,7 +14,7 @@ use Rattle.code.proofs.RoundTrip.{command-again, single-again}
 use Rattle.code.proofs.Written.{data-kept, domain-is-written, even-is-refused, odd-is-read, settled}
 use Rattle.code.specs.Outcome.{Outcome, answer, refused}
 use Rattle.code.specs.Parity.{isOdd, stripped, withParity}
-use Rattle.code.specs.Read.{codesOf, commandOf, isCommand, readPair, single}
+use Rattle.code.specs.Read.{codesOfBytes, controlCodeOf, isCommand, readPair, single}
 use Rattle.code.specs.Pair.{pair}
 use Rattle.code.specs.Write.{isCommandCode, writeCode}
 use Rattle.code.specs.declared.code.Code.{Code}
@@ -33,20 +33,20 @@ single-may b less =
     (dressed-exactly (single b) ∙ ap (λ (n : ℕ). eqb n 2 && not (isCommandCode (single b))) (text-has-one-byte b))
 
 -- a command was read from a first byte of 10 to 1F
-command-may : (a b : ℕ) → isCommand a ≡ true → b < 128 → queueable (code.Control (commandOf a b)) ≡ answer tt
+command-may : (a b : ℕ) → isCommand a ≡ true → b < 128 → queueable (code.Control (controlCodeOf a b)) ≡ answer tt
 command-may a b e less =
     let from = leb-true 0x10 a (both-left (leb 0x10 a) (leb a 0x1F) e) in
     let to = leb-true a 0x1F (both-right (leb 0x10 a) (leb a 0x1F) e) in
     let written = command-again a b from (omega arith) less in
     let kept : stripped (withParity a) ≡ a = data-kept a ∙ omega arith in
     let is-command = sym (written-says-command _ _ _ written) ∙ ap isCommand kept ∙ e in
-    written-may (code.Control (commandOf a b)) (pair (withParity a) (withParity b)) 2 written
-    (dressed-exactly (code.Control (commandOf a b)) ∙ ap not is-command)
+    written-may (code.Control (controlCodeOf a b)) (pair (withParity a) (withParity b)) 2 written
+    (dressed-exactly (code.Control (controlCodeOf a b)) ∙ ap not is-command)
 
 abbrev BothMay : Code × Code → Type 0
 BothMay r = (queueable (r .0) ≡ answer tt) × (queueable (r .1) ≡ answer tt)
 
-codes-may : (t : Bool) (a b : ℕ) → isCommand a ≡ t → a < 128 → b < 128 → BothMay (codesOf a b)
+codes-may : (t : Bool) (a b : ℕ) → isCommand a ≡ t → a < 128 → b < 128 → BothMay (codesOfBytes a b)
 codes-may true a b e la lb = rw e (command-may a b e lb, single-may 0 (lit< tt))
 codes-may false a b e la lb = rw e (single-may a la, single-may b lb)
 

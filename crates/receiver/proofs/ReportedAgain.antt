@@ -20,7 +20,7 @@ use Rattle.code.specs.Control.{controlCode}
 use Rattle.code.specs.Letter.{letterAt}
 use Rattle.code.specs.Outcome.{Outcome, answer}
 use Rattle.code.specs.Parity.{isOdd, stripped}
-use Rattle.code.specs.Read.{commandOf, isCommandPair, isOddPair, single}
+use Rattle.code.specs.Read.{controlCodeOf, isCommandPair, isOddPair, single}
 use Rattle.code.specs.declared.channel.Channel.{Channel}
 use Rattle.code.specs.declared.channel.Field.{Field}
 use Rattle.code.specs.declared.character.Character.{Character}
@@ -191,7 +191,7 @@ module _ (s : Cea608State) (p : Pair) (e : Cea608) (f : Field) (is : step s p .0
   unfolding eventOf
   read-command odd command =
       let parity = both-true (isOdd (p .0)) (isOdd (p .1)) odd in
-      let c = commandOf (stripped (p .0)) (stripped (p .1)) in
+      let c = controlCodeOf (stripped (p .0)) (stripped (p .1)) in
       let stepped = step-command s p c (code.Nul, read-as-command (p .0) (p .1) (parity .0) (parity .1) command) in
       let answered = sym (answer-of (isLast p (s .«last_data»)) _ _) ∙ sym (ap (λ (r : Stepped). r .0) stepped) ∙ is in
       control-again (c .control) (c .channel) e f (λ q read. row-that-was-read (p .0) (p .1) q command read)

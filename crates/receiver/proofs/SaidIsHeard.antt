@@ -11,7 +11,7 @@ use lib.Dec.{leb}
 use Rattle.code.proofs.Agree.{agree-from}
 use Rattle.code.proofs.Both.{both-true}
 use Rattle.code.proofs.ReadBack.{ReadsBack, command-reads-back, mid-row-reads-back, preamble-reads-back, tab-reads-back}
-use Rattle.code.specs.Control.{controlCode, tabAt, tabNumber}
+use Rattle.code.specs.Control.{controlCode, tabNumber, tabOf}
 use Rattle.code.specs.Outcome.{answer, refused}
 use Rattle.code.specs.Range.{within}
 use Rattle.code.specs.Write.{asSingle, together, writeCode}
@@ -26,7 +26,7 @@ use Rattle.code.specs.declared.control.Command.the-variants as command
 use Rattle.code.specs.declared.control.Control.{Control}
 use Rattle.code.specs.declared.control.Control.the-variants as control
 use Rattle.code.specs.declared.preamble.PreambleAddressCode.{PreambleAddressCode}
-use Rattle.event.specs.IntoCode.{alone, codes, codesOf, no-character, orRefusal, refusal, Turned}
+use Rattle.event.specs.IntoCode.{alone, codes, codesOf, no-first, no-second, orRefusal, refusal, Turned}
 use Rattle.event.specs.Mode.{commandOf, modeOf}
 use Rattle.event.specs.declared.event.Cea608.{Cea608}
 use Rattle.event.specs.declared.event.Cea608.the-variants as event
@@ -58,12 +58,14 @@ control-reported f ch c e back is = record {
 unfoldable pub first-code : Turned → Code
 first-code (codes x y) = x
 first-code (refusal n) = code.Nul
-first-code (no-character k n) = code.Nul
+first-code (no-first n) = code.Nul
+first-code (no-second n) = code.Nul
 
 unfoldable pub second-code : Turned → Code
 second-code (codes x y) = y
 second-code (refusal n) = code.Nul
-second-code (no-character k n) = code.Nul
+second-code (no-first n) = code.Nul
+second-code (no-second n) = code.Nul
 
 alone-reported : (f : Field) (ch : Channel) (c : Control) (e : Cea608) (x y : Code) → ReadsBack (field.Of f) ch c → controlEvent ch c ≡ some e → alone f ch c ≡ codes x y → Reported x y e
 unfolding first-code second-code
@@ -74,14 +76,14 @@ alone-reported f ch c e x y back is told =
     (subst (λ (z : Code). Reported z code.Nul e) first (control-reported (field.Of f) ch c e back is))
 
 -- tabs of 1, 2 and 3 columns
-tab-again : (n : ℕ) → 1 ≤ n → n ≤ 3 → tabNumber (tabAt (n - 1)) ≡ n
-tab-again n from to = agree-from (λ (k : ℕ). tabNumber (tabAt (k - 1))) (λ (k : ℕ). k) 1 3 refl n from (omega arith)
+tab-again : (n : ℕ) → 1 ≤ n → n ≤ 3 → tabNumber (tabOf n) ≡ n
+tab-again n from to = agree-from (λ (k : ℕ). tabNumber (tabOf k)) (λ (k : ℕ). k) 1 3 refl n from (omega arith)
 
-tab-by : (f : Field) (ch : Channel) (n : ℕ) (x y : Code) (t : Bool) → within 1 3 n ≡ t → orRefusal f ch (cond t (answer (control.Tab (tabAt (n - 1)))) (refused 4)) ≡ codes x y → Reported x y (event.TabOffset ch n)
+tab-by : (f : Field) (ch : Channel) (n : ℕ) (x y : Code) (t : Bool) → within 1 3 n ≡ t → orRefusal f ch (cond t (answer (control.Tab (tabOf n))) (refused 4)) ≡ codes x y → Reported x y (event.TabOffset ch n)
 tab-by f ch n x y true inside told =
     let range = both-true (leb 1 n) (leb n 3) inside in
     let same-count = tab-again n (leb-true 1 n (range .0)) (leb-true n 3 (range .1)) in
-    alone-reported f ch (control.Tab (tabAt (n - 1))) (event.TabOffset ch n) x y (tab-reads-back (field.Of f) ch (tabAt (n - 1)))
+    alone-reported f ch (control.Tab (tabOf n)) (event.TabOffset ch n) x y (tab-reads-back (field.Of f) ch (tabOf n))
     (ap (λ (k : ℕ). some (event.TabOffset ch k)) same-count) told
 tab-by f ch n x y false outside told = let z : _≡_ {A = ℕ} 0 1 = cc in absurd (omega arith)
 

@@ -11,7 +11,7 @@ use Rattle.code.proofs.Written.{even-is-refused, odd-is-read, read-as-text, sin
 use Rattle.code.specs.Code.{controlChar}
 use Rattle.code.specs.Outcome.{Outcome, answer, refused}
 use Rattle.code.specs.Parity.{isOdd, stripped}
-use Rattle.code.specs.Read.{codesOf, isCommand, isOddPair, readPair, single}
+use Rattle.code.specs.Read.{codesOfBytes, isCommand, isOddPair, readPair, single}
 use Rattle.code.specs.declared.channel.Channel.{Channel}
 use Rattle.code.specs.declared.code.Code.{Code}
 use Rattle.code.specs.declared.code.Code.the-variants as code
@@ -48,13 +48,13 @@ pub once-where-no-repeat : (s : Cea608State) (p : Pair) (c : ControlCode) → Is
 once-where-no-repeat s p c h other = step-command (forgotten s) p c h ∙ sym (command-acts s p c h other)
 
 -- a pair that cannot be read is refused by the reading's number
-pub hit-is-refused : (s : Cea608State) (p : Pair) (n : ℕ) → readPair (p .0) (p .1) ≡ refused n → step s p ≡ (refused n, s)
+pub unread-is-refused : (s : Cea608State) (p : Pair) (n : ℕ) → readPair (p .0) (p .1) ≡ refused n → step s p ≡ (refused n, s)
 unfolding step
-hit-is-refused s p n h = ap (afterReading s p) h
+unread-is-refused s p n h = ap (afterReading s p) h
 
 -- so the refusal is 1, exactly where a byte has an even count of ones
 pub even-is-refused-1 : (s : Cea608State) (p : Pair) → isOddPair p ≡ false → step s p ≡ (refused 1, s)
-even-is-refused-1 s p even = hit-is-refused s p 1 (even-is-refused (p .0) (p .1) even)
+even-is-refused-1 s p even = unread-is-refused s p 1 (even-is-refused (p .0) (p .1) even)
 
 module _ (s : Cea608State) (p : Pair) (n : ℕ) where
   refused-command : (t : Bool) (x y : Stepped) → ((x .0 ≡ refused n) → ⊥) → ((y .0 ≡ refused n) → ⊥) → cond t x y .0 ≡ refused n → ⊥
@@ -84,7 +84,7 @@ module _ (s : Cea608State) (p : Pair) (n : ℕ) where
   pub odd-is-not-refused : isOddPair p ≡ true → step s p .0 ≡ refused n → ⊥
   unfolding step
   odd-is-not-refused odd e =
-      let codes = codesOf (stripped (p .0)) (stripped (p .1)) in
+      let codes = codesOfBytes (stripped (p .0)) (stripped (p .1)) in
       codes-are-answered (codes .0) (codes .1) (sym (ap (λ (o : Outcome (Code × Code)). afterReading s p o .0) (odd-is-read (p .0) (p .1) odd)) ∙ e)
 
 -- what is no command is text, whatever the last pair was

@@ -13,7 +13,7 @@ use Rattle.code.specs.declared.code.Code.the-variants as code
 use Rattle.code.specs.declared.control.ControlCode.{ControlCode}
 use Rattle.code.specs.declared.letter.Letter.{Letter}
 use Rattle.code.specs.declared.pair.Pair.{Pair}
-use Rattle.event.specs.Event.{channelIn}
+use Rattle.event.specs.Event.{channelOfEvent}
 use Rattle.event.specs.IntoCode.{codes, codesOf}
 use Rattle.event.specs.declared.event.Cea608.{Cea608}
 use Rattle.event.specs.declared.event.Cea608.the-variants as event
@@ -27,7 +27,7 @@ use Rattle.receiver.specs.declared.state.LastChannel.the-variants as cha
 pub record Reported (x y : Code) (e : Cea608) : Type 0 where
   pub sent : Pair
   pub written : writeTwo x y ≡ answer sent
-  pub heard : (s : Cea608State) → s .«last_channel» ≡ channel.Known (channelIn e) → isLast sent (s .«last_data») ≡ false → step s sent .0 ≡ answer (some e)
+  pub heard : (s : Cea608State) → s .«last_channel» ≡ channel.Known (channelOfEvent e) → isLast sent (s .«last_data») ≡ false → step s sent .0 ≡ answer (some e)
 
 abbrev pub isText : Cea608 → Bool
 isText (event.Text t) = true

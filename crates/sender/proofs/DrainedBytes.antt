@@ -12,7 +12,7 @@ use lib.Seq.{drop-at, getD-append-add, getD-drop, getD-take, length-take-le}
 use Rattle.code.specs.Outcome.{Outcome}
 use Rattle.code.specs.declared.pair.Pair.{Pair}
 use Rattle.sender.proofs.Lent.{drained-as}
-use Rattle.sender.specs.Drain.{bytesOf, drainSender, drained, drainedPairs, filled, pairsFrom}
+use Rattle.sender.specs.Drain.{bytesOfPairs, drainSender, drained, drainedPairs, filled, pairsFrom}
 use Rattle.sender.specs.Sender.{view, wellFormed}
 use Rattle.sender.specs.Sending.{Sending, isIdle, send, sendTimes}
 use Rattle.sender.specs.declared.sender.Sender.{Sender}
@@ -28,28 +28,28 @@ within-the-limit (suc limit) (suc (suc room)) v = unless-idle (isIdle v) (within
     unless-idle true less = omega arith
     unless-idle false less = omega (arith, less)
 
-pub within-the-room : (limit room : ℕ) (v : Sending) → length (bytesOf (drainedPairs limit room v)) ≤ room
+pub within-the-room : (limit room : ℕ) (v : Sending) → length (bytesOfPairs (drainedPairs limit room v)) ≤ room
 within-the-room zero room v = omega arith
 within-the-room (suc limit) zero v = omega arith
 within-the-room (suc limit) (suc zero) v = omega arith
 within-the-room (suc limit) (suc (suc room)) v = unless-idle (isIdle v) (within-the-room limit room (send v .next))
   where
-    unless-idle : (t : Bool) → length (bytesOf (drainedPairs limit room (send v .next))) ≤ room → length (bytesOf (cond t [] (send v .pair ∷ drainedPairs limit room (send v .next)))) ≤ suc (suc room)
+    unless-idle : (t : Bool) → length (bytesOfPairs (drainedPairs limit room (send v .next))) ≤ room → length (bytesOfPairs (cond t [] (send v .pair ∷ drainedPairs limit room (send v .next)))) ≤ suc (suc room)
     unless-idle true less = omega arith
     unless-idle false less = omega (arith, less)
 
 -- two bytes a pair
-pub two-a-pair : (ps : List Pair) → length (bytesOf ps) ≡ 2 * length ps
+pub two-a-pair : (ps : List Pair) → length (bytesOfPairs ps) ≡ 2 * length ps
 two-a-pair [] = refl
 two-a-pair (p ∷ ps) = omega (arith, two-a-pair ps)
 
 -- read as pairs again, they are the same pairs, whatever comes after
-pub pairs-back : (ps : List Pair) (rest : List ℕ) → pairsFrom (length ps) (bytesOf ps ++ rest) ≡ ps
+pub pairs-back : (ps : List Pair) (rest : List ℕ) → pairsFrom (length ps) (bytesOfPairs ps ++ rest) ≡ ps
 pairs-back [] rest = refl
 pairs-back (p ∷ ps) rest = ap (λ (l : List Pair). p ∷ l) (pairs-back ps rest)
 
 -- the output afterwards: as long as it was, and the same before the start and after the last pair
-module _ (out : List ℕ) (start : ℕ) (ps : List Pair) (inside : start ≤ length out) (room : length (bytesOf ps) ≤ length (drop start out)) where
+module _ (out : List ℕ) (start : ℕ) (ps : List Pair) (inside : start ≤ length out) (room : length (bytesOfPairs ps) ≤ length (drop start out)) where
   abbrev written : List ℕ
   written = take start out ++ filled (drop start out) ps
 
@@ -58,9 +58,9 @@ module _ (out : List ℕ) (start : ℕ) (ps : List Pair) (inside : start ≤ len
 
   same-length : length written ≡ length out
   same-length =
-      let rest = length-drop (length (bytesOf ps)) (drop start out) in
+      let rest = length-drop (length (bytesOfPairs ps)) (drop start out) in
       let whole = length-append (take start out) (filled (drop start out) ps) in
-      let part = length-append (bytesOf ps) (drop (length (bytesOf ps)) (drop start out)) in
+      let part = length-append (bytesOfPairs ps) (drop (length (bytesOfPairs ps)) (drop start out)) in
       omega (arith, whole, part, rest, front, length-drop start out, inside, room)
 
   same-in-front : (i d : ℕ) → i < start → getD written i d ≡ getD out i d
@@ -68,28 +68,28 @@ module _ (out : List ℕ) (start : ℕ) (ps : List Pair) (inside : start ≤ len
       List·getD-append (take start out) (filled (drop start out) ps) d i (omega (arith, front, less))
       ∙ getD-take start out i d less
 
-  behind-by : (k d : ℕ) → getD written (start + (length (bytesOf ps) + k)) d ≡ getD out (start + (length (bytesOf ps) + k)) d
-  behind-by k d =
-      ap (λ (n : ℕ). getD written (n + (length (bytesOf ps) + k)) d) (sym front)
-      ∙ getD-append-add (take start out) (filled (drop start out) ps) (length (bytesOf ps) + k) d
-      ∙ getD-append-add (bytesOf ps) (drop (length (bytesOf ps)) (drop start out)) k d
-      ∙ getD-drop (length (bytesOf ps)) (drop start out) k d
-      ∙ getD-drop start out (length (bytesOf ps) + k) d
+  after-by : (k d : ℕ) → getD written (start + (length (bytesOfPairs ps) + k)) d ≡ getD out (start + (length (bytesOfPairs ps) + k)) d
+  after-by k d =
+      ap (λ (n : ℕ). getD written (n + (length (bytesOfPairs ps) + k)) d) (sym front)
+      ∙ getD-append-add (take start out) (filled (drop start out) ps) (length (bytesOfPairs ps) + k) d
+      ∙ getD-append-add (bytesOfPairs ps) (drop (length (bytesOfPairs ps)) (drop start out)) k d
+      ∙ getD-drop (length (bytesOfPairs ps)) (drop start out) k d
+      ∙ getD-drop start out (length (bytesOfPairs ps) + k) d
 
-  same-behind : (i d : ℕ) → start + length (bytesOf ps) ≤ i → getD written i d ≡ getD out i d
-  same-behind i d past =
-      let at : start + (length (bytesOf ps) + (i - start - length (bytesOf ps))) ≡ i = omega (arith, past) in
-      subst (λ (n : ℕ). getD written n d ≡ getD out n d) at (behind-by (i - start - length (bytesOf ps)) d)
+  same-after : (i d : ℕ) → start + length (bytesOfPairs ps) ≤ i → getD written i d ≡ getD out i d
+  same-after i d past =
+      let at : start + (length (bytesOfPairs ps) + (i - start - length (bytesOfPairs ps))) ≡ i = omega (arith, past) in
+      subst (λ (n : ℕ). getD written n d ≡ getD out n d) at (after-by (i - start - length (bytesOfPairs ps)) d)
 
   pairs-in-it : pairsFrom (length ps) (drop start written) ≡ ps
   pairs-in-it =
       ap (pairsFrom (length ps)) (drop-at (take start out) (filled (drop start out) ps) start front)
-      ∙ pairs-back ps (drop (length (bytesOf ps)) (drop start out))
+      ∙ pairs-back ps (drop (length (bytesOfPairs ps)) (drop start out))
 
 -- where it stopped: at the limit, with less than a pair of room, or idle
 abbrev pub Stopped : ℕ → ℕ → Sending → List Pair → Type 0
 Stopped limit room v ps =
-    (length ps ≡ limit) ⊎ ((room - length (bytesOf ps) < 2) ⊎ (isIdle (sendTimes (length ps) v) ≡ true))
+    (length ps ≡ limit) ⊎ ((room - length (bytesOfPairs ps) < 2) ⊎ (isIdle (sendTimes (length ps) v) ≡ true))
 
 pub why-it-stopped : (limit room : ℕ) (v : Sending) → Stopped limit room v (drainedPairs limit room v)
 why-it-stopped zero room v = inl refl
@@ -102,8 +102,8 @@ why-it-stopped (suc limit) (suc (suc room)) v =
     unless-idle true e ps later = inr (inr e)
     unless-idle false e ps later =
         ⊎-elim (λ (h : length ps ≡ limit). inl (ap suc h))
-        (λ (h : (room - length (bytesOf ps) < 2) ⊎ (isIdle (sendTimes (length ps) (send v .next)) ≡ true)).
-        ⊎-elim (λ (x : room - length (bytesOf ps) < 2). inr (inl (omega (arith, x))))
+        (λ (h : (room - length (bytesOfPairs ps) < 2) ⊎ (isIdle (sendTimes (length ps) (send v .next)) ≡ true)).
+        ⊎-elim (λ (x : room - length (bytesOfPairs ps) < 2). inr (inl (omega (arith, x))))
         (λ (x : isIdle (sendTimes (length ps) (send v .next)) ≡ true). inr (inr x)) h)
         later
 
@@ -115,7 +115,7 @@ module _ (s : Sender) (out : List ℕ) (start limit : ℕ) (formed : wellFormed 
   pub drains-as : drainSender s out start limit ≡ drained s out start itsPairs
   drains-as = drained-as s out start limit formed inside
 
-  room : length (bytesOf itsPairs) ≤ length (drop start out)
+  room : length (bytesOfPairs itsPairs) ≤ length (drop start out)
   room = within-the-room limit (length (drop start out)) (view s)
 
   pub output-as-long : length (drainSender s out start limit .2) ≡ length out
@@ -128,7 +128,7 @@ module _ (s : Sender) (out : List ℕ) (start limit : ℕ) (formed : wellFormed 
   pub same-after-the-last-pair : (i d : ℕ) → start + 2 * length itsPairs ≤ i → getD (drainSender s out start limit .2) i d ≡ getD out i d
   same-after-the-last-pair i d past =
       ap (λ (r : Outcome ℕ × Sender × List ℕ). getD (r .2) i d) drains-as
-      ∙ same-behind out start itsPairs inside room i d (omega (arith, past, two-a-pair itsPairs))
+      ∙ same-after out start itsPairs inside room i d (omega (arith, past, two-a-pair itsPairs))
 
   -- the bytes from the start on are those of its pairs
   pub its-pairs-in-the-output : pairsFrom (length itsPairs) (drop start (drainSender s out start limit .2)) ≡ itsPairs

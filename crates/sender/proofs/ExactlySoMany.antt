@@ -48,9 +48,9 @@ pushedTimes (suc n) s = pushSender (pushedTimes n s) A-acute .1
 abbrev pub sentOnce : Sender
 sentOnce = senderAfter (pushing A-acute ∷ call.sending ∷ call.sending ∷ []) freshSender
 
-one-behind : (n : ℕ) → replicate n A-acute ++ (A-acute ∷ []) ≡ replicate (suc n) A-acute
-one-behind zero = refl
-one-behind (suc n) = ap (λ (l : List Code). A-acute ∷ l) (one-behind n)
+one-after : (n : ℕ) → replicate n A-acute ++ (A-acute ∷ []) ≡ replicate (suc n) A-acute
+one-after zero = refl
+one-after (suc n) = ap (λ (l : List Code). A-acute ∷ l) (one-after n)
 
 admitted : (n : ℕ) → n < 64 → admit A-acute n ≡ answer true
 unfolding admit inDomain queueable
@@ -73,7 +73,7 @@ pushed-view (suc n) few =
     ∙ ap (λ (v : Sending). push A-acute v .1) before
     ∙ ap (λ (o : Outcome Bool). sendingOf (entered o (queued (replicate n A-acute ++ (A-acute ∷ [])) none) (queued (replicate n A-acute) none) .1) (repeating (pairOf A-acute)))
     (ap (admit A-acute) long ∙ admitted n (omega arith))
-    ∙ ap (λ (l : List Code). sendingOf (queued l none) (repeating (pairOf A-acute))) (one-behind n)
+    ∙ ap (λ (l : List Code). sendingOf (queued l none) (repeating (pairOf A-acute))) (one-after n)
 
 -- for every n up to 64 a state with n codes, reached from a fresh one, that does not report idle before 3 n + 1 sends
 pub needs-exactly-so-many : (n k : ℕ) → n ≤ 64 → idleSender (sendSenderTimes k (pushedTimes n sentOnce)) .0 ≡ answer (leb (3 * n + 1) k)

@@ -12,7 +12,7 @@ use Rattle.code.proofs.OneAnswer.{same}
 use Rattle.code.specs.Outcome.{Outcome, answer}
 use Rattle.code.specs.declared.pair.Pair.{Pair}
 use Rattle.sender.proofs.Refines.{sent-pair, sent-view}
-use Rattle.sender.specs.Drain.{bytesOf, drainedPairs, filled, sendSenderTimes}
+use Rattle.sender.specs.Drain.{bytesOfPairs, drainedPairs, filled, sendSenderTimes}
 use Rattle.sender.proofs.Steps.{step-is-the-send, stepIn}
 use Rattle.sender.specs.Next.{filling, moved}
 use Rattle.sender.specs.Sender.{sendSender, view, wellFormed}
@@ -55,8 +55,8 @@ module _ (part : List ℕ) (at : ℕ) (p : Pair) (room : 2 ≤ length part - at)
       ∙ ap (λ (l : List ℕ). l ++ (p .1 ∷ [])) (take-suc-set part at (p .0) (omega arith))
       ∙ append-assoc (take at part) (p .0 ∷ []) (p .1 ∷ [])
 
-  behind : drop (suc (suc at)) (set (set part at (p .0)) (suc at) (p .1)) ≡ drop (suc (suc at)) part
-  behind =
+  after-them : drop (suc (suc at)) (set (set part at (p .0)) (suc at) (p .1)) ≡ drop (suc (suc at)) part
+  after-them =
       drop-set-lt (suc (suc at)) (set part at (p .0)) (suc at) (p .1) (omega arith)
       ∙ drop-set-lt (suc (suc at)) part at (p .0) (omega arith)
 
@@ -67,9 +67,9 @@ module _ (part : List ℕ) (at : ℕ) (p : Pair) (room : 2 ≤ length part - at)
 
   filled-from : (ps : List Pair) → take (suc (suc at)) (set (set part at (p .0)) (suc at) (p .1)) ++ filled (drop (suc (suc at)) (set (set part at (p .0)) (suc at) (p .1))) ps ≡ take at part ++ filled (drop at part) (p ∷ ps)
   filled-from ps =
-      ap₂ (λ (front rest : List ℕ). front ++ (bytesOf ps ++ rest)) in-front
-      (ap (drop (length (bytesOf ps))) behind ∙ further (length (bytesOf ps)))
-      ∙ append-assoc (take at part) (p .0 ∷ p .1 ∷ []) (bytesOf ps ++ drop (suc (suc (length (bytesOf ps)))) (drop at part))
+      ap₂ (λ (front rest : List ℕ). front ++ (bytesOfPairs ps ++ rest)) in-front
+      (ap (drop (length (bytesOfPairs ps))) after-them ∙ further (length (bytesOfPairs ps)))
+      ∙ append-assoc (take at part) (p .0 ∷ p .1 ∷ []) (bytesOfPairs ps ++ drop (suc (suc (length (bytesOfPairs ps)))) (drop at part))
 
   pub filled-on : (ps : List Pair) → take at part ++ filled (drop at part) (p ∷ ps) ≡ take (at + 2) (storedAt part at p) ++ filled (drop (at + 2) (storedAt part at p)) ps
   filled-on ps =

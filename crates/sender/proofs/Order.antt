@@ -98,7 +98,7 @@ push-keeps-order : (x : Code) (s : Sender) → Good s → KeepsOrder (pushing x)
 push-keeps-order x s g =
     let told = push-refines s x g in
     ap (λ (o : Outcome Unit). inside (view s .queue) ++ letIn x o) (told .0)
-    ∙ sym (ring.push-puts-behind x (view s .queue))
+    ∙ sym (ring.push-puts-after x (view s .queue))
     ∙ ap (λ (v : Sending). inside (v .queue)) (sym (told .1))
 
 pub call-keeps-order : (c : Call) (s : Sender) → Good s → not (isReset c) ≡ true → KeepsOrder c s

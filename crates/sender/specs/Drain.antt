@@ -27,9 +27,9 @@ abbrev pub sendSenderTimes : ℕ → Sender → Sender
 sendSenderTimes zero s = s
 sendSenderTimes (suc n) s = sendSenderTimes n (sendSender s .1)
 
-abbrev pub bytesOf : List Pair → List ℕ
-bytesOf [] = []
-bytesOf (p ∷ ps) = p .0 ∷ p .1 ∷ bytesOf ps
+abbrev pub bytesOfPairs : List Pair → List ℕ
+bytesOfPairs [] = []
+bytesOfPairs (p ∷ ps) = p .0 ∷ p .1 ∷ bytesOfPairs ps
 
 -- back: the first n pairs of some bytes, as far as there are whole ones
 abbrev pub pairsFrom : ℕ → List ℕ → List Pair
@@ -40,7 +40,7 @@ pairsFrom (suc n) (a ∷ b ∷ bytes) = pair a b ∷ pairsFrom n bytes
 
 -- a part with the pairs at its beginning, and after them what was there
 abbrev pub filled : List ℕ → List Pair → List ℕ
-filled part ps = bytesOf ps ++ drop (length (bytesOf ps)) part
+filled part ps = bytesOfPairs ps ++ drop (length (bytesOfPairs ps)) part
 
 -- the count of sends, the state after them, and the output with their bytes from the start on
 abbrev pub drained : Sender → List ℕ → ℕ → List Pair → Outcome ℕ × Sender × List ℕ

@@ -40,8 +40,8 @@ moved s t = record {
 }
 
 -- a state by its parts
-abbrev pub together : List ℕ → ℕ → ℕ → Held → Repeats → Sender
-together places start waiting h r = record {
+abbrev pub senderOf : List ℕ → ℕ → ℕ → Held → Repeats → Sender
+senderOf places start waiting h r = record {
   queue = record { places = places; start = start; waiting = waiting; held = h };
   repeats = r;
 }
@@ -62,7 +62,7 @@ abbrev pub filling : Sender → List ℕ → ℕ → ℕ × Sender × List ℕ
 filling s part limit = filledBy s part (drainedPairs limit (length part) (view s))
 
 abbrev pub senderAt : Sender → Progress → Sender
-senderAt s r = together (s .queue .places) (r .start) (r .waiting) (r .held) (r .repeats)
+senderAt s r = senderOf (s .queue .places) (r .start) (r .waiting) (r .held) (r .repeats)
 
 abbrev pub progressOutcome : Sender → Progress → List ℕ → ℕ × Sender × List ℕ
 progressOutcome s r part = (r .sends, senderAt s r, part)

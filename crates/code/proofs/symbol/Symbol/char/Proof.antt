@@ -17,13 +17,13 @@ add-point-at c = omega (arith, symbol-small (c .before .args .self))
 point-at-requires : tie.Need-point-at-requires
 point-at-requires c κs = omega (arith, symbol-small (c .before .args .self))
 
-from-entry-requires : tie.Need-from-entry-requires
-from-entry-requires c κs = search needs
+from-point-requires : tie.Need-from-point-requires
+from-point-requires c κs = search needs
 
 returns : tie.Need-returns
 returns c =
     let place = symbolPlace (c .before .before .before .args .self) in
-    simp (c .from-entry .ensures, c .before .point-at .ensures, c .before .before .place .ensures, symbol-point place (symbol-small (c .before .before .before .args .self)))
+    simp (c .from-point .ensures, c .before .point-at .ensures, c .before .before .place .ensures, symbol-point place (symbol-small (c .before .before .before .args .self)))
 
 pub char-spec : {M : Type 1} → statement M
-char-spec = tie.close (tie.spec place-requires add-point-at point-at-requires from-entry-requires returns)
+char-spec = tie.close (tie.spec place-requires add-point-at point-at-requires from-point-requires returns)

@@ -2,7 +2,7 @@
 -- Assumes nothing.
 use borrow.Author.Needs.{needs}
 use mathlib.Core.Path.{ap, sym, _∙_}
-use Rattle.event.specs.IntoCode.{characterCodeOutcome}
+use Rattle.code.specs.Code.{fromCharOutcome}
 use Rattle.event.proofs.event.Text.into_code.Statement.{statement}
 use Rattle.event.proofs.event.Text.into_code.Tie as tie
 
@@ -16,7 +16,7 @@ enum-told : tie.Need-enum-told
 enum-told c = search needs
 
 returns : tie.Need-returns
-returns c = rw (sym (c .before .before .character-code .ensures) ∙ ap characterCodeOutcome (c .enum-told .given .1))
+returns c = rw (sym (c .before .before .character-code .ensures) ∙ ap fromCharOutcome (c .enum-told .given .1))
 
 character-code-requires-2 : tie.Need-character-code-requires-2
 character-code-requires-2 c κs = search needs
@@ -28,10 +28,10 @@ enum-told-2 : tie.Need-enum-told-2
 enum-told-2 c = search needs
 
 returns-2 : tie.Need-returns-2
-returns-2 c = rw (sym (c .before .before .before .before .before .before .character-code .ensures) ∙ ap characterCodeOutcome (c .before .before .before .before .first .given .1), sym (c .before .before .character-code2 .ensures) ∙ ap characterCodeOutcome (c .enum-told2 .given .1))
+returns-2 c = rw (sym (c .before .before .before .before .before .before .character-code .ensures) ∙ ap fromCharOutcome (c .before .before .before .before .first .given .1), sym (c .before .before .character-code2 .ensures) ∙ ap fromCharOutcome (c .enum-told2 .given .1))
 
 returns-3 : tie.Need-returns-3
-returns-3 c = rw (sym (c .before .before .before .before .before .before .before .character-code .ensures) ∙ ap characterCodeOutcome (c .before .before .before .before .before .first .given .1), sym (c .before .before .before .character-code2 .ensures) ∙ ap characterCodeOutcome (c .before .second .given .1))
+returns-3 c = rw (sym (c .before .before .before .before .before .before .before .character-code .ensures) ∙ ap fromCharOutcome (c .before .before .before .before .before .first .given .1), sym (c .before .before .before .character-code2 .ensures) ∙ ap fromCharOutcome (c .before .second .given .1))
 
 pub into-code-spec : {M : Type 1} → statement M
 into-code-spec =

@@ -14,7 +14,7 @@ use Rattle.sender.proofs.Filling.{begun, comesTo, done-at-limit, done-w
 use Rattle.sender.proofs.NothingLeft.{idle-by-parts}
 use Rattle.sender.proofs.Refines.{queue-formed, sent-formed}
 use Rattle.sender.proofs.Steps.{step-found, step-frees-waiting, step-is-the-send, stepIn}
-use Rattle.sender.specs.Next.{filling, moved, together}
+use Rattle.sender.specs.Next.{filling, moved, senderOf}
 use Rattle.sender.specs.Sender.{view, wellFormed}
 use Rattle.sender.specs.Sending.{isIdle}
 use Rattle.sender.specs.declared.send.Step.{Step}
@@ -24,8 +24,8 @@ use Rattle.sender.proofs.sender.Sender.write_pairs.Tie as tie
 
 abbrev Inv-loop : tie.InvT-loop
 Inv-loop part₀ limit room places start₀ waiting₀ held₀ repeats₀ sends₀ at₀ part start waiting held repeats sends at =
-    (comesTo limit sends (together places start waiting held repeats) part at ≡ filling (together places start₀ waiting₀ held₀ repeats₀) part₀ limit)
-    × (wellFormed (together places start waiting held repeats) ≡ true)
+    (comesTo limit sends (senderOf places start waiting held repeats) part at ≡ filling (senderOf places start₀ waiting₀ held₀ repeats₀) part₀ limit)
+    × (wellFormed (senderOf places start waiting held repeats) ≡ true)
     × (length part ≡ length part₀)
     × (room ≡ length part₀)
     × (at ≤ room)
@@ -38,7 +38,7 @@ abbrev μ-loop : tie.MeasureT-loop
 abbrev now : tie.Else2 Inv-loop μ-loop → Sender
 now c =
     let loop = c .before .before .before .before .loop in
-    together (c .before .before .before .before .before .before .before .before .before .args .self .queue .places) (loop .start) (loop .waiting) (loop .held) (loop .repeats)
+    senderOf (c .before .before .before .before .before .before .before .before .before .args .self .queue .places) (loop .start) (loop .waiting) (loop .held) (loop .repeats)
 
 is-formed : (c : tie.Else2 Inv-loop μ-loop) → wellFormed (now c) ≡ true
 is-formed c = c .before .before .before .before .loop .inv .1
@@ -151,7 +151,7 @@ same-length-3 c = search needs
 returns-3 : tie.Need-returns-3 Inv-loop μ-loop
 returns-3 c =
     let loop = c .before .before .before .before .loop in
-    let s = together (c .before .before .before .before .before .before .before .before .before .args .self .queue .places) (loop .start) (loop .waiting) (loop .held) (loop .repeats) in
+    let s = senderOf (c .before .before .before .before .before .before .before .before .before .args .self .queue .places) (loop .start) (loop .waiting) (loop .held) (loop .repeats) in
     sym (done-when-idle _ (loop .sends) s (loop .part) (loop .at) (idle-by-parts s ∙ sym (c .before .has-nothing .ensures) ∙ c .if2 .taken))
     ∙ loop .inv .0
 
