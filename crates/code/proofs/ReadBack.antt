@@ -1,5 +1,5 @@
--- What is written is read back: a control code but `Unknown` with its own channel and control, whatever field it names, and
--- single codes as they were. With `RoundTrip`, which goes from pairs to codes and back, this goes from codes to pairs and
+-- What is written is read back: a control code but `Unknown` with its own channel and control and with the field that its
+-- bytes name, and single codes as they were. With `RoundTrip`, which goes from pairs to codes and back, this goes from codes to pairs and
 -- back.
 -- Assumes nothing.
 use mathlib.Core.Bool.{Bool, true, false, cond, _&&_, true≢false}
@@ -23,6 +23,7 @@ use Rattle.code.specs.Pair.{pair}
 use Rattle.code.specs.Parity.{stripped, withParity}
 use Rattle.code.specs.Range.{within}
 use Rattle.code.specs.Read.{channelOf, controlCodeOf, fieldOf, isCommand, isCommandPair, isOddPair, meaning, orUnknown, readPair, single, withoutChannel, withoutField}
+use Rattle.code.specs.ReadBack.{ReadsBack, TextReadsBack, fieldRead, isPlain}
 use Rattle.code.specs.Write.{asSingle, controlBytes, isFieldTwo, midRowBytes, onLine, preambleBytes, symbolBytes, together, withChannel, withField, writeCode, writeTwo}
 use Rattle.code.specs.declared.channel.Channel.{Channel}
 use Rattle.code.specs.declared.code.Code.{Code}
@@ -71,6 +72,28 @@ field-back (Of f) a b from below less = named (f .0)
     named true = agree-grid (λ (x y : ℕ). ifMeant (meaning x y) (readAs (Of fieldOne) x y)) meaning 16 8 128 refl a b from below less
     named false = agree-grid (λ (x y : ℕ). ifMeant (meaning x y) (readAs (Of fieldTwo) x y)) meaning 16 8 128 refl a b from below less
 
+-- the field that is read, where the bytes mean something
+abbrev ifMeantField : Option Control → CodeField → CodeField
+ifMeantField none f = Absent
+ifMeantField (some c) f = f
+
+abbrev fieldMeant : CodeField → Option Control → CodeField
+fieldMeant f none = Absent
+fieldMeant f (some c) = fieldRead f c
+
+abbrev fieldWritten : CodeField → ℕ → ℕ → CodeField
+fieldWritten f a b = fieldOf (withField f (pair a b)) b
+
+field-meant : (f : CodeField) (a b : ℕ) → 16 ≤ a → a < 24 → b < 128 → ifMeantField (meaning a b) (fieldWritten f a b) ≡ fieldMeant f (meaning a b)
+unfolding meaning
+field-meant Absent a b from below less =
+    agree-grid (λ (x y : ℕ). ifMeantField (meaning x y) (fieldWritten Absent x y)) (λ (x y : ℕ). fieldMeant Absent (meaning x y)) 16 8 128 refl a b from below less
+field-meant (Of f) a b from below less = named (f .0)
+  where
+    named : (t : Bool) → ifMeantField (meaning a b) (fieldWritten (Of (record { 0 = t })) a b) ≡ fieldMeant (Of (record { 0 = t })) (meaning a b)
+    named true = agree-grid (λ (x y : ℕ). ifMeantField (meaning x y) (fieldWritten (Of fieldOne) x y)) (λ (x y : ℕ). fieldMeant (Of fieldOne) (meaning x y)) 16 8 128 refl a b from below less
+    named false = agree-grid (λ (x y : ℕ). ifMeantField (meaning x y) (fieldWritten (Of fieldTwo) x y)) (λ (x y : ℕ). fieldMeant (Of fieldTwo) (meaning x y)) 16 8 128 refl a b from below less
+
 -- 14 becomes 15 at most, so that the first byte stays between 10 and 17
 between : (t : Bool) (a : ℕ) → 16 ≤ a → a < 24 → (16 ≤ cond t 0x15 a) × (cond t 0x15 a < 24)
 between true a from below = (lit≤ tt, lit< tt)
@@ -108,20 +131,39 @@ module _ (f : CodeField) (ch : Channel) (a b : ℕ) (c : Control) (from : 16 ≤
       ∙ field-back f a b from below less
       ∙ means
 
-  pub command-back : controlCodeOf sent b ≡ record { field = fieldOf (withoutChannel sent) b; channel = ch; control = c }
+  field-again : fieldOf (withoutChannel sent) b ≡ fieldRead f c
+  field-again =
+      ap (λ (x : ℕ). fieldOf x b) (channel-back (ch .0) named (inside .0) (inside .1))
+      ∙ sym (ap (λ (m : Option Control). ifMeantField m (fieldWritten f a b)) means)
+      ∙ field-meant f a b from below less
+      ∙ ap (fieldMeant f) means
+
+  abbrev back : ControlCode
+  back = record { field = fieldRead f c; channel = ch; control = c }
+
+  command-back : controlCodeOf sent b ≡ back
   unfolding controlCodeOf
   command-back =
-      ap₂ {C = ControlCode} (λ (d : Channel) (m : Option Control). record { field = fieldOf (withoutChannel sent) b; channel = d; control = orUnknown sent b m })
+      ap (λ (g : CodeField). record { field = g; channel = channelOf sent; control = orUnknown sent b (meaning (withoutField (withoutChannel sent) b) b) }) field-again
+      ∙ ap₂ {C = ControlCode} (λ (d : Channel) (m : Option Control). record { field = fieldRead f c; channel = d; control = orUnknown sent b m })
       (channel-kept (ch .0) named (inside .0) (inside .1)) means-again
 
-  pub bytes-read-back : readPair (onLine f ch (pair a b) .0) (onLine f ch (pair a b) .1) ≡ answer (code.Control (record { field = fieldOf (withoutChannel sent) b; channel = ch; control = c }), code.Nul)
+  first-kept : stripped (withParity sent) ≡ sent
+  first-kept = data-kept sent ∙ channel-between (ch .0) named (inside .0) (inside .1) .1
+
+  first-is-command : isCommand (stripped (withParity sent)) ≡ true
+  first-is-command = ap isCommand first-kept ∙ channel-between (ch .0) named (inside .0) (inside .1) .0
+
+  pub sent-as-command : isCommandPair (onLine f ch (pair a b)) ≡ true
+  unfolding onLine
+  sent-as-command = first-is-command
+
+  pub bytes-read-back : readPair (onLine f ch (pair a b) .0) (onLine f ch (pair a b) .1) ≡ answer (code.Control back, code.Nul)
   unfolding onLine
   bytes-read-back =
-      let known = channel-between (ch .0) named (inside .0) (inside .1) in
-      let first : stripped (withParity sent) ≡ sent = data-kept sent ∙ known .1 in
       let second : stripped (withParity b) ≡ b = data-kept b ∙ small-stays b less in
-      read-as-command (withParity sent) (withParity b) (with-parity sent .odd) (with-parity b .odd) (ap isCommand first ∙ known .0)
-      ∙ ap₂ {C = Outcome (Code × Code)} (λ (x y : ℕ). answer (code.Control (controlCodeOf x y), code.Nul)) first second
+      read-as-command (withParity sent) (withParity b) (with-parity sent .odd) (with-parity b .odd) first-is-command
+      ∙ ap₂ {C = Outcome (Code × Code)} (λ (x y : ℕ). answer (code.Control (controlCodeOf x y), code.Nul)) first-kept second
       ∙ ap {B = Outcome (Code × Code)} (λ (x : ControlCode). answer (code.Control x, code.Nul)) command-back
 
 -- from 18 on no first byte, channel aside, means anything
@@ -134,14 +176,6 @@ first-below a b c true e to less means = ltb-true a 24 e
 first-below a b c false e to less means =
     absurd (Option·none-ne-some c (sym (none-above a b (ltb-false a 24 e) to less) ∙ means))
 
--- a control code as it is written and read back, with its own channel and control; it is read with the field that its bytes
--- name
-pub record ReadsBack (f : CodeField) (ch : Channel) (c : Control) : Type 0 where
-  pub sent : Pair
-  pub written : writeCode (code.Control (record { field = f; channel = ch; control = c })) ≡ answer (sent, 2)
-  pub field : CodeField
-  pub read : readPair (sent .0) (sent .1) ≡ answer (code.Control (record { field = field; channel = ch; control = c }), code.Nul)
-
 by-bytes : (f : CodeField) (ch : Channel) (c : Control) (p : Pair) → controlBytes c ≡ answer p → isPairOfControl p ≡ true → meant p ≡ some c → ReadsBack f ch c
 by-bytes f ch c p bytes fits means =
     let range = both-true (isCommand (p .0)) (ltb (p .1) 0x80) fits in
@@ -153,8 +187,8 @@ by-bytes f ch c p bytes fits means =
     record {
       sent = onLine f ch p;
       written = control-written (record { field = f; channel = ch; control = c }) p bytes;
-      field = fieldOf (withoutChannel (withChannel ch (withField f p))) (p .1);
       read = bytes-read-back f ch (p .0) (p .1) c from below less means;
+      is-command = sent-as-command f ch (p .0) (p .1) c from below less means;
     }
 
 pub mid-row-reads-back : (f : CodeField) (ch : Channel) (m : MidRow) → ReadsBack f ch (control.MidRow m)
@@ -180,14 +214,7 @@ preamble-reads-back f ch p inside =
     by-bytes f ch (control.Preamble p) (preambleBytes p) (rw (le-leb (p .row) 14 (omega arith)) refl) (preamble-pair p inside)
     (preamble-meant p inside)
 
--- NUL and letters, two to a pair
-abbrev pub isPlain : Code → Bool
-isPlain code.Nul = true
-isPlain (code.Control c) = false
-isPlain (code.Letter l) = true
-isPlain (code.Unknown b) = false
-
--- the byte of such a code, before parity
+-- the byte of NUL or a letter, before parity
 pub record Plain (x : Code) : Type 0 where
   pub byte : ℕ
   pub small : byte < 128
@@ -218,13 +245,6 @@ plain code.Nul e = plain-nul
 plain (code.Control c) e = absurd (true≢false (sym e))
 plain (code.Letter l) e = plain-letter l
 plain (code.Unknown b) e = absurd (true≢false (sym e))
-
-pub record TextReadsBack (x y : Code) : Type 0 where
-  pub sent : Pair
-  pub written : writeTwo x y ≡ answer sent
-  pub odd : isOddPair sent ≡ true
-  pub read : readPair (sent .0) (sent .1) ≡ answer (x, y)
-  pub no-command : isCommandPair sent ≡ false
 
 pub text-reads-back : (x y : Code) → isPlain x ≡ true → isPlain y ≡ true → TextReadsBack x y
 text-reads-back x y px py =

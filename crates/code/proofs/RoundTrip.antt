@@ -14,6 +14,7 @@ use Rattle.code.specs.Outcome.{Outcome, answer, refused}
 use Rattle.code.specs.Parity.{isOdd, stripped, withParity}
 use Rattle.code.specs.Read.{codesOfBytes, controlCodeOf, isCommand, meaning, readPair, single}
 use Rattle.code.specs.Pair.{pair}
+use Rattle.code.specs.RoundTrip.{count, countPairs, isRead, writtenAgain}
 use Rattle.code.specs.Write.{asCommand, asSingle, controlBytes, onLine, preambleBytes, together, writeCode, writeTwo}
 use Rattle.code.specs.declared.channel.Channel.{Channel}
 use Rattle.code.specs.declared.code.Code.{Code}
@@ -70,10 +71,6 @@ pub stripped-again : (a b : ℕ) → a < 128 → b < 128 → writeTwo (codesOfBy
 stripped-again a b la lb = again (isCommand a) a b la lb refl
 
 -- what was read is written again
-abbrev pub writtenAgain : Outcome (Code × Code) → Outcome Pair
-writtenAgain (answer codes) = writeTwo (codes .0) (codes .1)
-writtenAgain (refused n) = refused n
-
 abbrev pub passes : ℕ → ℕ → Bool
 passes a b = isOdd a && isOdd b
 
@@ -103,14 +100,6 @@ row-that-was-read a b p is read =
     row-of-answer (p .row) (preambleBytes p) (bytes .0) (leb (p .row) 14) refl (sym (ap controlBytes read) ∙ bytes .1)
 
 -- how many pass
-abbrev pub count : (ℕ → Bool) → ℕ → ℕ
-count f zero = 0
-count f (suc n) = cond (f n) 1 0 + count f n
-
-abbrev pub countPairs : (ℕ → ℕ → Bool) → ℕ → ℕ → ℕ
-countPairs f zero m = 0
-countPairs f (suc n) m = count (f n) m + countPairs f n m
-
 odd-pairs : countPairs passes 256 256 ≡ 16384
 unfolding ones onesIn
 odd-pairs = refl
@@ -125,10 +114,6 @@ pairs-same f g zero m same = refl
 pairs-same f g (suc n) m same = rw (count-same (f n) (g n) m (same n), pairs-same f g n m same) refl
 
 -- so many pairs are read
-abbrev pub isRead : Outcome (Code × Code) → Bool
-isRead (answer codes) = true
-isRead (refused n) = false
-
 read-by : (t : Bool) (codes : Code × Code) → isRead (cond t (answer codes) (refused 1)) ≡ t
 read-by true codes = refl
 read-by false codes = refl

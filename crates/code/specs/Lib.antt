@@ -16,3 +16,5 @@ pub mod Characters
 pub mod Read
 pub mod Write
 pub mod Code
+pub mod ReadBack
+pub mod RoundTrip

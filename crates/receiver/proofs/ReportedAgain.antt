@@ -55,7 +55,7 @@ use Rattle.event.specs.Mode.{modeOf}
 use Rattle.receiver.specs.declared.state.LastChannel.the-variants as channel
 
 abbrev Again : Cea608 → Field → Type 0
-Again e f = (x : Code) × (y : Code) × (codesOf e f ≡ codes x y) × Reported x y e
+Again e f = (x : Code) × (y : Code) × (codesOf e f ≡ codes x y) × Reported x y f e
 
 -- an event that is no text, by its codes
 no-text-again : (e : Cea608) (f : Field) (x y : Code) → isText e ≡ false → codesOf e f ≡ codes x y → Again e f
@@ -109,7 +109,7 @@ symbol-by s ch e f (some c) has is =
       x,
       code.Nul,
       ap (λ (o : Outcome Code). inOrder o (answer code.Nul)) (a-symbol-is-its-characters-code field.Absent ch s c ch has),
-      control-reported field.Absent ch (control.Symbol s) _ (symbol-reads-back field.Absent ch s) (ap (symbolText ch s) has),
+      control-reported field.Absent f ch (control.Symbol s) _ (symbol-reads-back field.Absent ch s) (ap (symbolText ch s) has) refl refl,
     )
 
 control-again : (c : Control) (ch : Channel) (e : Cea608) (f : Field) → ((p : PreambleAddressCode) → c ≡ control.Preamble p → p .row < 15) → controlEvent ch c ≡ some e → Again e f

@@ -2,18 +2,19 @@
 -- single codes as they were; a character's code has that character (`BothWays` of `code`).
 -- Assumes nothing.
 use mathlib.Core.Bool.{Bool, true, false, cond, true≢false}
-use mathlib.Core.Option.{some}
-use mathlib.Core.Path.{_≡_, refl, ap, ap₂, subst, _∙_}
+use mathlib.Core.Option.{Option, some}
+use mathlib.Core.Path.{_≡_, refl, ap, ap₂, sym, subst, _∙_}
 use Prim.Native.Nat.{ℕ, _-_, _≤_, _<_}
 use native.Mathlib.Omega.{arith}
 use borrow.Author.Tests.{leb-true}
 use lib.Dec.{leb}
 use Rattle.code.proofs.Agree.{agree-from}
 use Rattle.code.proofs.Both.{both-true}
-use Rattle.code.proofs.ReadBack.{ReadsBack, command-reads-back, mid-row-reads-back, preamble-reads-back, tab-reads-back}
+use Rattle.code.proofs.ReadBack.{command-reads-back, mid-row-reads-back, preamble-reads-back, tab-reads-back}
 use Rattle.code.specs.Control.{controlCode, tabNumber, tabOf}
 use Rattle.code.specs.Outcome.{answer, refused}
 use Rattle.code.specs.Range.{within}
+use Rattle.code.specs.ReadBack.{ReadsBack, fieldRead}
 use Rattle.code.specs.Write.{asSingle, together, writeCode}
 use Rattle.code.specs.declared.channel.Channel.{Channel}
 use Rattle.code.specs.declared.channel.Field.{Field}
@@ -26,6 +27,7 @@ use Rattle.code.specs.declared.control.Command.the-variants as command
 use Rattle.code.specs.declared.control.Control.{Control}
 use Rattle.code.specs.declared.control.Control.the-variants as control
 use Rattle.code.specs.declared.preamble.PreambleAddressCode.{PreambleAddressCode}
+use Rattle.event.specs.Event.{channelOfEvent}
 use Rattle.event.specs.IntoCode.{alone, codes, codesOf, no-first, no-second, orRefusal, refusal, Turned}
 use Rattle.event.specs.Mode.{commandOf, modeOf}
 use Rattle.event.specs.declared.event.Cea608.{Cea608}
@@ -34,24 +36,27 @@ use Rattle.event.specs.declared.mode.Mode.{Mode}
 use Rattle.event.specs.declared.mode.Mode.the-variants.{PopOn, PaintOn, RollUp2, RollUp3, RollUp4}
 use Rattle.receiver.proofs.Step.{command-acts}
 use Rattle.receiver.specs.Heard.{controlEvent, eventOf}
-use Rattle.receiver.specs.Receiver.{Stepped}
-use Rattle.receiver.specs.SaidIsHeard.{Reported, SaidIsHeardLaw}
+use Rattle.receiver.specs.Receiver.{Stepped, fieldAfter, lastField, state}
+use Rattle.receiver.specs.SaidIsHeard.{Reported, SaidIsHeardLaw, fieldNamed}
+use Rattle.receiver.specs.declared.state.LastChannel.the-variants as channel
+use Rattle.receiver.specs.declared.state.LastPair.the-variants as last
 
 -- a control code alone, with NUL after it, is written as its pair
 pub nul-written : writeCode code.Nul ≡ asSingle 0
 unfolding writeCode
 nul-written = refl
 
--- a control that has an event and is read back is reported
-pub control-reported : (f : CodeField) (ch : Channel) (c : Control) (e : Cea608) → ReadsBack f ch c → controlEvent ch c ≡ some e → Reported (code.Control (record { field = f; channel = ch; control = c })) code.Nul e
+-- a control that has an event and is read back is reported, where its channel and its field are the event's
+pub control-reported : (g : CodeField) (f : Field) (ch : Channel) (c : Control) (e : Cea608) → ReadsBack g ch c → controlEvent ch c ≡ some e → ch ≡ channelOfEvent e → fieldRead g c ≡ fieldNamed e f → Reported (code.Control (record { field = g; channel = ch; control = c })) code.Nul f e
 unfolding eventOf
-control-reported f ch c e back is = record {
+control-reported g f ch c e back is on named = record {
   sent = back .sent;
   written = ap₂ together (back .written) nul-written;
-  heard = λ s on other.
-      ap (λ (r : Stepped). r .0)
-      (command-acts s (back .sent) (record { field = back .field; channel = ch; control = c }) (code.Nul, back .read) other)
-      ∙ ap answer is;
+  command-decoded = λ is-command s other.
+      command-acts s (back .sent) (record { field = fieldRead g c; channel = ch; control = c }) (code.Nul, back .read) other
+      ∙ ap₂ {C = Stepped} (λ (o : Option Cea608) (d : Channel). (answer o, state (last.Was (back .sent)) (channel.Known d) (fieldAfter (fieldRead g c) (lastField s)))) is on
+      ∙ ap {B = Stepped} (λ (h : CodeField). (answer (some e), state (last.Was (back .sent)) (channel.Known (channelOfEvent e)) (fieldAfter h (lastField s)))) named;
+  text-decoded = λ is-text s on-it. absurd (true≢false (sym (back .is-command) ∙ is-text));
 }
 
 -- its two codes are what was handed in
@@ -67,35 +72,36 @@ second-code (refusal n) = code.Nul
 second-code (no-first n) = code.Nul
 second-code (no-second n) = code.Nul
 
-alone-reported : (f : Field) (ch : Channel) (c : Control) (e : Cea608) (x y : Code) → ReadsBack (field.Of f) ch c → controlEvent ch c ≡ some e → alone f ch c ≡ codes x y → Reported x y e
+alone-reported : (f : Field) (ch : Channel) (c : Control) (e : Cea608) (x y : Code) → ReadsBack (field.Of f) ch c → controlEvent ch c ≡ some e → ch ≡ channelOfEvent e → fieldRead (field.Of f) c ≡ fieldNamed e f → alone f ch c ≡ codes x y → Reported x y f e
 unfolding first-code second-code
-alone-reported f ch c e x y back is told =
+alone-reported f ch c e x y back is on named told =
     let first : code.Control (controlCode f ch c) ≡ x = ap first-code told in
     let second : code.Nul ≡ y = ap second-code told in
-    subst (λ (z : Code). Reported x z e) second
-    (subst (λ (z : Code). Reported z code.Nul e) first (control-reported (field.Of f) ch c e back is))
+    subst (λ (z : Code). Reported x z f e) second
+    (subst (λ (z : Code). Reported z code.Nul f e) first (control-reported (field.Of f) f ch c e back is on named))
 
 -- tabs of 1, 2 and 3 columns
 tab-again : (n : ℕ) → 1 ≤ n → n ≤ 3 → tabNumber (tabOf n) ≡ n
 tab-again n from to = agree-from (λ (k : ℕ). tabNumber (tabOf k)) (λ (k : ℕ). k) 1 3 refl n from (omega arith)
 
-tab-by : (f : Field) (ch : Channel) (n : ℕ) (x y : Code) (t : Bool) → within 1 3 n ≡ t → orRefusal f ch (cond t (answer (control.Tab (tabOf n))) (refused 4)) ≡ codes x y → Reported x y (event.TabOffset ch n)
+tab-by : (f : Field) (ch : Channel) (n : ℕ) (x y : Code) (t : Bool) → within 1 3 n ≡ t → orRefusal f ch (cond t (answer (control.Tab (tabOf n))) (refused 4)) ≡ codes x y → Reported x y f (event.TabOffset ch n)
 tab-by f ch n x y true inside told =
     let range = both-true (leb 1 n) (leb n 3) inside in
     let same-count = tab-again n (leb-true 1 n (range .0)) (leb-true n 3 (range .1)) in
     alone-reported f ch (control.Tab (tabOf n)) (event.TabOffset ch n) x y (tab-reads-back (field.Of f) ch (tabOf n))
-    (ap (λ (k : ℕ). some (event.TabOffset ch k)) same-count) told
+    (ap (λ (k : ℕ). some (event.TabOffset ch k)) same-count) refl refl told
 tab-by f ch n x y false outside told = let z : _≡_ {A = ℕ} 0 1 = cc in absurd (omega arith)
 
 -- preambles of the rows 0 to 14
-row-by : (f : Field) (ch : Channel) (p : PreambleAddressCode) (x y : Code) (t : Bool) → leb (p .row) 14 ≡ t → orRefusal f ch (cond t (answer (control.Preamble p)) (refused 3)) ≡ codes x y → Reported x y (event.Preamble ch p)
+row-by : (f : Field) (ch : Channel) (p : PreambleAddressCode) (x y : Code) (t : Bool) → leb (p .row) 14 ≡ t → orRefusal f ch (cond t (answer (control.Preamble p)) (refused 3)) ≡ codes x y → Reported x y f (event.Preamble ch p)
 row-by f ch p x y true inside told =
     let row : p .row < 15 = omega (arith, leb-true (p .row) 14 inside) in
-    alone-reported f ch (control.Preamble p) (event.Preamble ch p) x y (preamble-reads-back (field.Of f) ch p row) refl told
+    alone-reported f ch (control.Preamble p) (event.Preamble ch p) x y (preamble-reads-back (field.Of f) ch p row) refl refl refl told
 row-by f ch p x y false outside told = let z : _≡_ {A = ℕ} 0 1 = cc in absurd (omega arith)
 
-command-reported : (f : Field) (ch : Channel) (c : Command) (e : Cea608) (x y : Code) → controlEvent ch (control.Command c) ≡ some e → alone f ch (control.Command c) ≡ codes x y → Reported x y e
-command-reported f ch c e x y is told = alone-reported f ch (control.Command c) e x y (command-reads-back (field.Of f) ch c) is told
+command-reported : (f : Field) (ch : Channel) (c : Command) (e : Cea608) (x y : Code) → controlEvent ch (control.Command c) ≡ some e → ch ≡ channelOfEvent e → field.Of f ≡ fieldNamed e f → alone f ch (control.Command c) ≡ codes x y → Reported x y f e
+command-reported f ch c e x y is on named told =
+    alone-reported f ch (control.Command c) e x y (command-reads-back (field.Of f) ch c) is on named told
 
 mode-reported : (ch : Channel) (m : Mode) → controlEvent ch (control.Command (commandOf m)) ≡ some (event.NewMode ch m)
 unfolding modeOf
@@ -108,14 +114,14 @@ mode-reported ch RollUp4 = refl
 pub said-is-heard : SaidIsHeardLaw
 unfolding codesOf
 said-is-heard (event.Text t) f x y is told = absurd (true≢false is)
-said-is-heard (event.NewMode ch m) f x y is told = command-reported f ch (commandOf m) (event.NewMode ch m) x y (mode-reported ch m) told
-said-is-heard (event.EraseDisplay ch) f x y is told = command-reported f ch command.EraseDisplayedMemory (event.EraseDisplay ch) x y refl told
-said-is-heard (event.EraseNonDisplay ch) f x y is told = command-reported f ch command.EraseNonDisplayedMemory (event.EraseNonDisplay ch) x y refl told
-said-is-heard (event.CarriageReturn ch) f x y is told = command-reported f ch command.CarriageReturn (event.CarriageReturn ch) x y refl told
-said-is-heard (event.Backspace ch) f x y is told = command-reported f ch command.Backspace (event.Backspace ch) x y refl told
-said-is-heard (event.EndOfCaption ch) f x y is told = command-reported f ch command.EndOfCaption (event.EndOfCaption ch) x y refl told
+said-is-heard (event.NewMode ch m) f x y is told = command-reported f ch (commandOf m) (event.NewMode ch m) x y (mode-reported ch m) refl refl told
+said-is-heard (event.EraseDisplay ch) f x y is told = command-reported f ch command.EraseDisplayedMemory (event.EraseDisplay ch) x y refl refl refl told
+said-is-heard (event.EraseNonDisplay ch) f x y is told = command-reported f ch command.EraseNonDisplayedMemory (event.EraseNonDisplay ch) x y refl refl refl told
+said-is-heard (event.CarriageReturn ch) f x y is told = command-reported f ch command.CarriageReturn (event.CarriageReturn ch) x y refl refl refl told
+said-is-heard (event.Backspace ch) f x y is told = command-reported f ch command.Backspace (event.Backspace ch) x y refl refl refl told
+said-is-heard (event.EndOfCaption ch) f x y is told = command-reported f ch command.EndOfCaption (event.EndOfCaption ch) x y refl refl refl told
 said-is-heard (event.TabOffset ch n) f x y is told = tab-by f ch n x y (within 1 3 n) refl told
-said-is-heard (event.DeleteToEndOfRow ch) f x y is told = command-reported f ch command.DeleteToEndOfRow (event.DeleteToEndOfRow ch) x y refl told
+said-is-heard (event.DeleteToEndOfRow ch) f x y is told = command-reported f ch command.DeleteToEndOfRow (event.DeleteToEndOfRow ch) x y refl refl refl told
 said-is-heard (event.Preamble ch p) f x y is told = row-by f ch p x y (leb (p .row) 14) refl told
 said-is-heard (event.MidRowChange ch m) f x y is told =
-    alone-reported f ch (control.MidRow m) (event.MidRowChange ch m) x y (mid-row-reads-back (field.Of f) ch m) refl told
+    alone-reported f ch (control.MidRow m) (event.MidRowChange ch m) x y (mid-row-reads-back (field.Of f) ch m) refl refl refl told

@@ -1,16 +1,18 @@
 -- Text that shares one pair is heard, with the mark that its first code has.
 -- Assumes nothing.
-use mathlib.Core.Bool.{false}
-use mathlib.Core.Option.{Option·none-ne-some, none, some}
+use mathlib.Core.Bool.{false, true≢false}
+use mathlib.Core.Option.{Option, Option·none-ne-some, none, some}
 use mathlib.Core.Path.{_≡_, refl, ap, ap₂, sym, subst, _∙_}
 use Prim.Native.Nat.{ℕ}
 use native.Mathlib.Omega.{arith}
 use Rattle.code.proofs.BothWays.{a-characters-code-has-it, a-characters-control-is-a-symbol, a-letter-has-a-character}
 use Rattle.code.proofs.OneAnswer.{same}
-use Rattle.code.proofs.ReadBack.{TextReadsBack, symbol-reads-back, text-reads-back}
+use Rattle.code.proofs.ReadBack.{symbol-reads-back, text-reads-back}
 use Rattle.code.specs.Code.{charOf, characterOutcome, controlChar, needsBackspace}
 use Rattle.code.specs.Outcome.{Outcome, answer, refused}
+use Rattle.code.specs.ReadBack.{TextReadsBack}
 use Rattle.code.specs.declared.channel.Channel.{Channel}
+use Rattle.code.specs.declared.channel.Field.{Field}
 use Rattle.code.specs.declared.character.Character.{Character}
 use Rattle.code.specs.declared.character.Character.the-variants as character
 use Rattle.code.specs.declared.code.Code.{Code}
@@ -28,10 +30,12 @@ use Rattle.event.specs.declared.event.Text.{Text}
 use Rattle.receiver.proofs.SaidIsHeard.{control-reported, first-code, second-code}
 use Rattle.receiver.specs.Heard as heard
 use Rattle.receiver.specs.Heard.{textEvent, textOf}
-use Rattle.receiver.specs.Receiver.{afterReading, heardCodes, heardText, step, Stepped, textFor}
-use Rattle.receiver.specs.SaidIsHeard.{OnePair, Reported, TextIsHeardLaw, marked, only-a-first, only-a-second, only-a-symbol, two-letters}
+use Rattle.receiver.specs.Receiver.{afterReading, heardCodes, heardText, lastField, state, step, Stepped, textFor}
+use Rattle.receiver.specs.SaidIsHeard.{InOnePair, Reported, TextIsHeardLaw, marked, only-a-first, only-a-second, only-a-symbol, two-letters}
 use Rattle.receiver.specs.declared.state.Cea608State.{Cea608State}
 use Rattle.receiver.specs.declared.state.LastChannel.{LastChannel}
+use Rattle.receiver.specs.declared.state.LastChannel.the-variants as channel
+use Rattle.receiver.specs.declared.state.LastPair.the-variants as last
 
 -- the code of a character, or NUL for none, has that character
 pub has-its-character : (k : Character) (ch : Channel) (x : Code) → characterCode k ch ≡ answer x → charOf x ≡ characterOutcome k
@@ -55,16 +59,17 @@ made ch character.Absent (character.Point d) some-character = refl
 made ch character.Absent character.Absent some-character = absurd (some-character refl refl)
 
 -- single codes that are read back are reported as text
-plain-reported : (t : Text) (x y : Code) → TextReadsBack x y → ((s : Cea608State) (p : Pair) → heardCodes s p x y ≡ heardText s p x y) → textEvent (t .channel) x y ≡ some (event.Text t) → Reported x y (event.Text t)
+plain-reported : (t : Text) (f : Field) (x y : Code) → TextReadsBack x y → ((s : Cea608State) (p : Pair) → heardCodes s p x y ≡ heardText s p x y) → textEvent (t .channel) x y ≡ some (event.Text t) → Reported x y f (event.Text t)
 unfolding step
-plain-reported t x y back as-text is = record {
+plain-reported t f x y back as-text is = record {
   sent = back .sent;
   written = back .written;
-  heard = λ s on other.
-      ap (λ (o : Outcome (Code × Code)). afterReading s (back .sent) o .0) (back .read)
-      ∙ ap (λ (r : Stepped). r .0) (as-text s (back .sent))
-      ∙ ap (λ (l : LastChannel). answer (textFor l x y)) on
-      ∙ ap answer is;
+  command-decoded = λ is-command s other. absurd (true≢false (sym is-command ∙ back .no-command));
+  text-decoded = λ is-text s on.
+      ap (afterReading s (back .sent)) (back .read)
+      ∙ as-text s (back .sent)
+      ∙ ap {B = Stepped} (λ (l : LastChannel). (answer (textFor l x y), state (last.Was (back .sent)) l (lastField s))) on
+      ∙ ap {B = Stepped} (λ (o : Option Cea608). (answer o, state (last.Was (back .sent)) (channel.Known (t .channel)) (lastField s))) is;
 }
 
 module _ (t : Text) (x y : Code) (first : characterCode (t .char1) (t .channel) ≡ answer x) (second : characterCode (t .char2) (t .channel) ≡ answer y) where
@@ -88,38 +93,38 @@ absent-by : (k : Character) → characterOutcome k ≡ none → k ≡ character.
 absent-by (character.Point c) e = absurd (Option·none-ne-some c (sym e))
 absent-by character.Absent e = refl
 
-abbrev symbolAs : Channel → Symbol → ControlCode
-symbolAs ch s = record { field = field.Absent; channel = ch; control = control.Symbol s }
+abbrev bareSymbol : Channel → Symbol → ControlCode
+bareSymbol ch s = record { field = field.Absent; channel = ch; control = control.Symbol s }
 
 abbrev asText : ControlCode → Character → Character → Channel → Cea608
 asText c k l ch = event.Text (record { «needs_backspace» = needsBackspace (code.Control c); char1 = k; char2 = l; channel = ch })
 
-symbol-heard : (ch : Channel) (k l : Character) (c : ControlCode) → characterCode k ch ≡ answer (code.Control c) → characterCode l ch ≡ answer code.Nul → Reported (code.Control c) code.Nul (asText c k l ch)
+symbol-heard : (f : Field) (ch : Channel) (k l : Character) (c : ControlCode) → characterCode k ch ≡ answer (code.Control c) → characterCode l ch ≡ answer code.Nul → Reported (code.Control c) code.Nul f (asText c k l ch)
 unfolding charOf
-symbol-heard ch (character.Point p) l c first second =
+symbol-heard f ch (character.Point p) l c first second =
     let found = a-characters-control-is-a-symbol p ch c first in
     let s = found .0 in
     let has : controlChar (control.Symbol s) ≡ some p = ap charOf (sym (ap code.Control (found .1))) ∙ a-characters-code-has-it p ch (code.Control c) first in
     let none-left : l ≡ character.Absent = absent-by l (sym (has-its-character l ch code.Nul second)) in
-    subst (λ (d : ControlCode). Reported (code.Control d) code.Nul (asText d (character.Point p) l ch)) (sym (found .1))
-    (subst (λ (m : Character). Reported (code.Control (symbolAs ch s)) code.Nul (asText (symbolAs ch s) (character.Point p) m ch)) (sym none-left)
-    (control-reported field.Absent ch (control.Symbol s) _ (symbol-reads-back field.Absent ch s) (ap (heard.symbolText ch s) has)))
-symbol-heard ch character.Absent l c first second = let z : _≡_ {A = ℕ} 0 1 = cc in absurd (omega arith)
+    subst (λ (d : ControlCode). Reported (code.Control d) code.Nul f (asText d (character.Point p) l ch)) (sym (found .1))
+    (subst (λ (m : Character). Reported (code.Control (bareSymbol ch s)) code.Nul f (asText (bareSymbol ch s) (character.Point p) m ch)) (sym none-left)
+    (control-reported field.Absent f ch (control.Symbol s) _ (symbol-reads-back field.Absent ch s) (ap (heard.symbolText ch s) has) refl refl))
+symbol-heard f ch character.Absent l c first second = let z : _≡_ {A = ℕ} 0 1 = cc in absurd (omega arith)
 
-shared : (t : Text) (x y : Code) → characterCode (t .char1) (t .channel) ≡ answer x → characterCode (t .char2) (t .channel) ≡ answer y → OnePair x y → Reported x y (event.Text (marked t x))
-shared t x y first second (two-letters l m) =
-    plain-reported (marked t (code.Letter l)) _ _ (text-reads-back (code.Letter l) (code.Letter m) refl refl) (λ s p. refl)
+shared : (t : Text) (f : Field) (x y : Code) → characterCode (t .char1) (t .channel) ≡ answer x → characterCode (t .char2) (t .channel) ≡ answer y → InOnePair x y → Reported x y f (event.Text (marked t x))
+shared t f x y first second (two-letters l m) =
+    plain-reported (marked t (code.Letter l)) f _ _ (text-reads-back (code.Letter l) (code.Letter m) refl refl) (λ s p. refl)
     (its-text t _ _ first second (λ no-first no-second. has-one l no-first))
-shared t x y first second (only-a-first l) =
-    plain-reported (marked t (code.Letter l)) _ _ (text-reads-back (code.Letter l) code.Nul refl refl) (λ s p. refl)
+shared t f x y first second (only-a-first l) =
+    plain-reported (marked t (code.Letter l)) f _ _ (text-reads-back (code.Letter l) code.Nul refl refl) (λ s p. refl)
     (its-text t _ _ first second (λ no-first no-second. has-one l no-first))
-shared t x y first second (only-a-second l) =
-    plain-reported (marked t code.Nul) _ _ (text-reads-back code.Nul (code.Letter l) refl refl) (λ s p. refl)
+shared t f x y first second (only-a-second l) =
+    plain-reported (marked t code.Nul) f _ _ (text-reads-back code.Nul (code.Letter l) refl refl) (λ s p. refl)
     (its-text t _ _ first second (λ no-first no-second. has-one l no-second))
-shared t x y first second (only-a-symbol c) = symbol-heard (t .channel) (t .char1) (t .char2) c first second
+shared t f x y first second (only-a-symbol c) = symbol-heard f (t .channel) (t .char1) (t .char2) c first second
 
 pub text-is-heard : TextIsHeardLaw
 unfolding codesOf
 text-is-heard t f x y told one =
     let both = both-codes (characterCode (t .char1) (t .channel)) (characterCode (t .char2) (t .channel)) x y told in
-    shared t x y (both .0) (both .1) one
+    shared t f x y (both .0) (both .1) one
