@@ -1,3 +1,4 @@
 pub mod OneAnswer
 pub mod Back
 pub mod Services
+pub mod KnownPairs

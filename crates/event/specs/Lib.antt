@@ -3,3 +3,4 @@ pub mod Id
 pub mod Event
 pub mod IntoCode
 pub mod Services
+pub mod KnownPairs

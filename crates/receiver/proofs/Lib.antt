@@ -5,3 +5,4 @@ pub mod Step
 pub mod SaidIsHeard
 pub mod TextIsHeard
 pub mod ReportedAgain
+pub mod KnownPairs

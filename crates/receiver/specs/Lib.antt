@@ -2,3 +2,4 @@ pub mod Heard
 pub mod Receiver
 pub mod Reading
 pub mod SaidIsHeard
+pub mod KnownPairs
