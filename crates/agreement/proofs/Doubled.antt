@@ -6,7 +6,6 @@ use mathlib.Core.List.{List, [], _∷_, _++_, append-assoc, append-nil}
 use mathlib.Core.Path.{_≡_, refl, ap, ap₂, sym, subst, _∙_}
 use Prim.Native.Nat.{ℕ, zero, suc}
 use Rattle.code.proofs.Both.{both-left, both-right}
-use Rattle.code.proofs.Written.{SentPair}
 use Rattle.code.specs.Outcome.{Outcome, answer}
 use Rattle.code.specs.Read.{isCommandPair, isOddPair}
 use Rattle.code.specs.declared.pair.Pair.{Pair}
@@ -16,6 +15,7 @@ use Rattle.queue.specs.Queue.{pop}
 use Rattle.queue.specs.Ring.{popRing}
 use Rattle.queue.specs.Ring as queue
 use Rattle.queue.specs.declared.ring.Queue.{Queue}
+use Rattle.sender.proofs.AnyState.{odd-of-sent}
 use Rattle.sender.proofs.InCalls.{holds-in-calls}
 use Rattle.sender.proofs.Order.{call-owes, call-stays-good}
 use Rattle.sender.proofs.Refines.{queue-formed, send-good, send-refines}
@@ -101,14 +101,11 @@ sent-is-doubled (c ∷ calls) s g none =
     ∙ ap (λ (l : List Pair). before ++ l) (sym (doubled-by-parts here later))
 
 -- every pair of the queue has odd parity, and so has every pair that is sent
-sent-is-odd : (p : Pair) → SentPair p → isOddPair p ≡ true
-sent-is-odd p s = rw (s .first .odd, s .second .odd) refl
-
 popped-odd : (o : Owed) (q : Queue) → queue.wellFormed q ≡ true → AllOdd (fromQueue o q)
 popped-odd (owed.Repeat p) q formed = tt
 popped-odd owed.Absent q formed =
     subst (λ (o : Outcome Pair). AllOdd (given o)) (sym (pair-of-queue q formed))
-    (sent-is-odd (pop (queue.view q) .pair) (popped-is-sent (queue.view q) (good-fits q formed)), tt)
+    (odd-of-sent (pop (queue.view q) .pair) (popped-is-sent (queue.view q) (good-fits q formed)), tt)
 
 pub all-of-both : {A : Type 0} (Is : A → Type 0) (xs ys : List A) → All Is xs → All Is ys → All Is (xs ++ ys)
 all-of-both Is [] ys first second = second

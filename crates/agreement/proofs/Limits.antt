@@ -4,6 +4,7 @@
 -- Assumes nothing.
 use mathlib.Core.Bool.{true, false}
 use mathlib.Core.List.{List, [], _∷_, map}
+use mathlib.Core.Option.{none}
 use mathlib.Core.Path.{_≡_, refl, ap, _∙_}
 use native.Mathlib.Omega.{arith}
 use lib.Count.{ones, onesIn}
@@ -72,7 +73,7 @@ unfolding ones onesIn writeCode inDomain queueable admit pairOf codeOf pop pushR
 what-is-sent = (refl, refl, refl, refl)
 
 -- the codes of each pair
-pub what-it-is-made-of : packed programme freshSender ≡ record { pair = rollUp2; codes = command RollUp2 ∷ [] } ∷ record { pair = carriageReturn; codes = command CarriageReturn ∷ [] } ∷ record { pair = hi; codes = code.Letter (letterAt 0x28) ∷ code.Letter (letterAt 0x49) ∷ [] } ∷ []
+pub what-it-is-made-of : packed programme freshSender ≡ record { pair = rollUp2; codes = command RollUp2 ∷ []; held = none } ∷ record { pair = carriageReturn; codes = command CarriageReturn ∷ []; held = none } ∷ record { pair = hi; codes = code.Letter (letterAt 0x28) ∷ code.Letter (letterAt 0x49) ∷ []; held = none } ∷ []
 unfolding ones onesIn writeCode inDomain queueable admit pairOf codeOf pop pushRing popRing ring.wellFormed wellFormed pushSender send sendSender drainSender idleSender onLine controlBytes meaning
 what-it-is-made-of = refl
 
@@ -136,7 +137,7 @@ abbrev halfACommand : List Call
 halfACommand =
     pushing (code.Unknown 0x14) ∷ pushing (code.Letter (letterAt 0x21)) ∷ sending ∷ sending ∷ []
 
-pub half-a-command-is-sent-twice : (packed halfACommand freshSender ≡ record { pair = pair 0x94 0xC1; codes = code.Unknown 0x14 ∷ code.Letter (letterAt 0x21) ∷ [] } ∷ []) × (sentBy halfACommand freshSender ≡ pair 0x94 0xC1 ∷ pair 0x94 0xC1 ∷ [])
+pub half-a-command-is-sent-twice : (packed halfACommand freshSender ≡ record { pair = pair 0x94 0xC1; codes = code.Unknown 0x14 ∷ code.Letter (letterAt 0x21) ∷ []; held = none } ∷ []) × (sentBy halfACommand freshSender ≡ pair 0x94 0xC1 ∷ pair 0x94 0xC1 ∷ [])
 unfolding ones onesIn writeCode inDomain queueable admit pairOf codeOf pop pushRing popRing ring.wellFormed wellFormed pushSender send sendSender
 half-a-command-is-sent-twice = (refl, refl)
 

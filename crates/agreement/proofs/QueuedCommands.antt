@@ -1,57 +1,69 @@
--- What is queued as a command is sent as a command, twice. Each pop is well packed (`Commands` of `queue`), and what the
--- sends take is what was accepted, in order (`FirstInFirstOut` of `sender`).
+-- What is queued as a command is sent as a command, twice. Each pop is well packed (`Sends` and `Commands` of `queue`),
+-- what it holds is the next one's, and what the sends take is what was accepted, in order (`FirstInFirstOut` of `sender`).
 -- Assumes nothing.
-use mathlib.Core.Bool.{Bool, true, cond}
+use mathlib.Core.Bool.{Bool, true, false, cond, not, true≢false}
 use mathlib.Core.List.{List, [], _∷_, _++_, append-assoc, append-nil}
-use mathlib.Core.Path.{_≡_, refl, ap, ap₂, sym, _∙_}
+use mathlib.Core.Option.{Option}
+use mathlib.Core.Path.{_≡_, refl, ap, ap₂, sym, subst, _∙_}
+use Prim.Native.Nat.{ℕ, zero, suc}
+use lib.ListN.{length}
+use Rattle.code.proofs.Both.{both-left, both-right}
 use Rattle.code.specs.Outcome.{Outcome, answer, refused}
 use Rattle.code.specs.Read.{isCommandPair}
 use Rattle.code.specs.declared.code.Code.{Code}
 use Rattle.code.specs.declared.pair.Pair.{Pair}
-use Rattle.queue.proofs.Commands.{made-of, popped-is-a-command}
+use Rattle.queue.proofs.Commands.{popped-is-a-command}
 use Rattle.queue.proofs.Refines.{good-fits}
+use Rattle.queue.proofs.Sends.{after-held, made-of}
 use Rattle.queue.specs.Calls as of-queue
-use Rattle.queue.specs.Queue.{inside, pop}
+use Rattle.queue.specs.Queue.{Queued, admit, entered, inside, pop}
 use Rattle.queue.specs.Ring.{popRing}
 use Rattle.queue.specs.Ring as queue
 use Rattle.queue.specs.declared.ring.Queue.{Queue}
 use Rattle.sender.proofs.FirstInFirstOut.{first-in-first-out, sender-of-history, taken-by-sends}
 use Rattle.sender.proofs.InCalls.{holds-in-calls, part-in-calls}
-use Rattle.sender.proofs.Refines.{fresh-good, queue-formed}
-use Rattle.sender.specs.Calls.{Call, begun, noReset, recordedAll, senderAfter, takenBy}
+use Rattle.sender.proofs.Order.{a-drain-is-sends, a-send-is-one, call-stays-good, count-same, idle-same}
+use Rattle.sender.proofs.Refines.{fresh-good, popped-view, push-refines, queue-formed, send-good, send-refines}
+use Rattle.sender.specs.Calls.{Call, pushing, sending, draining, counting, asking, resetting, begun, inSends, isReset, noReset, onSender, recordedAll, senderAfter, sendsBy, takenBy}
+use Rattle.sender.specs.Drain.{sendSenderTimes}
 use Rattle.sender.specs.Good.{Good}
-use Rattle.sender.specs.Sender.{freshSender, view}
-use Rattle.sender.specs.Sending.{send, sendOwed}
+use Rattle.sender.specs.Sender.{freshSender, sendSender, view}
+use Rattle.sender.specs.Sending.{Sending, send, sendOwed}
 use Rattle.sender.specs.declared.sender.Owed.{Owed}
 use Rattle.sender.specs.declared.sender.Owed.the-variants as owed
 use Rattle.sender.specs.declared.sender.Sender.{Sender}
 use Rattle.agreement.proofs.Doubled.{all-of-both, pair-of-queue, sent-is-doubled}
 use Rattle.agreement.specs.Agreement.{All, given, fromQueue, queuePair, queuePairs}
 use Rattle.agreement.specs.Doubled.{doubled}
-use Rattle.agreement.specs.QueuedCommands.{Packed, QueuedCommandsLaw, WellPacked, codesIn, packed, packedBy, packedOf, packedPair, pairsIn, sentByCodes}
+use Rattle.agreement.specs.QueuedCommands.{HeldNext, Packed, QueuedCommandsLaw, WellPacked, codesIn, packed, packedBy, packedOf, packedPair, pairsIn, sentByCodes}
 
 -- they are the queue's pairs
 pairs-by-parts : (ms ns : List Packed) → pairsIn (ms ++ ns) ≡ pairsIn ms ++ pairsIn ns
 pairs-by-parts [] ns = refl
 pairs-by-parts (m ∷ ms) ns = ap (λ (l : List Pair). m .pair ∷ l) (pairs-by-parts ms ns)
 
-pair-packed : (o : Outcome Pair) (taken : List Code) → pairsIn (packedOf o taken) ≡ given o
-pair-packed (answer p) taken = refl
-pair-packed (refused n) taken = refl
+pair-packed : (o : Outcome Pair) (taken : List Code) (held : Option Code) → pairsIn (packedOf o taken held) ≡ given o
+pair-packed (answer p) taken held = refl
+pair-packed (refused n) taken held = refl
 
 pair-of-send : (o : Owed) (q : Queue) → pairsIn (packedBy o q) ≡ fromQueue o q
 pair-of-send (owed.Repeat p) q = refl
-pair-of-send owed.Absent q = pair-packed (popRing q .0) (of-queue.takenBy q)
+pair-of-send owed.Absent q = pair-packed (popRing q .0) (of-queue.takenBy q) (queue.view (popRing q .1) .held)
 
 pairs-are-the-queues : (calls : List Call) (s : Sender) → Good s → pairsIn (packed calls s) ≡ queuePairs calls s
 pairs-are-the-queues calls s g =
     part-in-calls packedPair queuePair pairsIn refl pairs-by-parts
     (λ (r : Sender) (good : Good r). pair-of-send (r .repeats .owed) (r .queue)) calls s g
 
--- a pop of a well-formed queue makes one pair, of what it takes
-one-packed : (q : Queue) → queue.wellFormed q ≡ true → packedBy owed.Absent q ≡ record { pair = pop (queue.view q) .pair; codes = pop (queue.view q) .took } ∷ []
+-- a pop of a well-formed queue makes one pair, of what it takes and what it then holds
+abbrev packedPop : Queue → Packed
+packedPop q = let p = pop (queue.view q) in record { pair = p .pair; codes = p .took; held = p .next .held }
+
+one-packed : (q : Queue) → queue.wellFormed q ≡ true → packedBy owed.Absent q ≡ packedPop q ∷ []
 one-packed q formed =
-    ap₂ packedOf (pair-of-queue q formed) (ap (λ (t : Bool). cond t (pop (queue.view q) .took) []) formed)
+    ap₂ (λ (l : List Code) (o : Outcome Pair). packedOf o l (queue.view (popRing q .1) .held))
+    (ap (λ (t : Bool). cond t (pop (queue.view q) .took) []) formed) (pair-of-queue q formed)
+    ∙ ap (λ (v : Queued). packedOf (answer (pop (queue.view q) .pair)) (pop (queue.view q) .took) (v .held)) (popped-view q formed)
 
 send-well-packed : (o : Owed) (q : Queue) → queue.wellFormed q ≡ true → All WellPacked (packedBy o q)
 send-well-packed (owed.Repeat p) q formed = tt
@@ -64,6 +76,59 @@ all-well-packed : (calls : List Call) (s : Sender) → Good s → All WellPacked
 all-well-packed calls s g =
     holds-in-calls packedPair (All WellPacked) tt (all-of-both WellPacked)
     (λ (r : Sender) (good : Good r). send-well-packed (r .repeats .owed) (r .queue) (queue-formed r (good .formed))) calls s g
+
+-- what is held goes from part to part
+held-by-parts : (before middle after : Option Code) (ms ns : List Packed) → HeldNext before ms middle → HeldNext middle ns after → HeldNext before (ms ++ ns) after
+held-by-parts before middle after [] ns first second = subst (λ (h : Option Code). HeldNext h ns after) (sym first) second
+held-by-parts before middle after (m ∷ ms) ns first second =
+    (first .0, held-by-parts (m .held) middle after ms ns (first .1) second)
+
+abbrev heldIn : Sender → Option Code
+heldIn s = view s .queue .held
+
+-- of one send: an owed repeat leaves the queue as it is
+held-by-owed : (o : Owed) (q : Queue) → queue.wellFormed q ≡ true → HeldNext (queue.view q .held) (packedBy o q) (sendOwed o (queue.view q) .next .queue .held)
+held-by-owed (owed.Repeat p) q formed = refl
+held-by-owed owed.Absent q formed = rw (one-packed q formed) (after-held (queue.view q), refl)
+
+held-by-send : (s : Sender) → Good s → HeldNext (heldIn s) (packedPair s) (heldIn (sendSender s .1))
+unfolding send
+held-by-send s g =
+    subst (λ (v : Sending). HeldNext (heldIn s) (packedPair s) (v .queue .held)) (sym (send-refines s g .1))
+    (held-by-owed (s .repeats .owed) (s .queue) (queue-formed s (g .formed)))
+
+held-by-sends : (n : ℕ) (s : Sender) → Good s → HeldNext (heldIn s) (inSends packedPair n s) (heldIn (sendSenderTimes n s))
+held-by-sends zero s g = refl
+held-by-sends (suc n) s g =
+    let next = sendSender s .1 in
+    held-by-parts (heldIn s) (heldIn next) _ (packedPair s) (inSends packedPair n next)
+    (held-by-send s g) (held-by-sends n next (send-good s g))
+
+-- what is held after a call is what is held after its sends: a push leaves it
+entered-holds : (o : Outcome Bool) (more same : Queued) → more .held ≡ same .held → entered o more same .1 .held ≡ same .held
+entered-holds (answer true) more same e = e
+entered-holds (answer false) more same e = refl
+entered-holds (refused n) more same e = refl
+
+call-holds : (c : Call) (s : Sender) → Good s → not (isReset c) ≡ true → heldIn (onSender c s .1) ≡ heldIn (sendSenderTimes (sendsBy (onSender c s .0)) s)
+call-holds (pushing x) s g stays =
+    ap (λ (v : Sending). v .queue .held) (push-refines s x g .1)
+    ∙ entered-holds (admit x (length (view s .queue .waiting))) _ (view s .queue) refl
+call-holds sending s g stays = ap heldIn (a-send-is-one s g)
+call-holds (draining out start limit) s g stays = ap heldIn (a-drain-is-sends s out start limit g)
+call-holds counting s g stays = ap heldIn (count-same s g)
+call-holds asking s g stays = ap heldIn (idle-same s g)
+call-holds resetting s g stays = absurd (true≢false (sym stays))
+
+-- so a held command is the next pair, whatever calls are between
+held-by-calls : (calls : List Call) (s : Sender) → Good s → noReset calls ≡ true → HeldNext (heldIn s) (packed calls s) (heldIn (senderAfter calls s))
+held-by-calls [] s g stays = refl
+held-by-calls (c ∷ calls) s g stays =
+    let next = onSender c s .1 in
+    let n = sendsBy (onSender c s .0) in
+    held-by-parts (heldIn s) (heldIn next) _ (inSends packedPair n s) (packed calls next)
+    (subst (HeldNext (heldIn s) (inSends packedPair n s)) (sym (call-holds c s g (both-left (not (isReset c)) (noReset calls) stays))) (held-by-sends n s g))
+    (held-by-calls calls next (call-stays-good c s g) (both-right (not (isReset c)) (noReset calls) stays))
 
 -- their codes are those that the sends took
 codes-by-parts : (ms ns : List Packed) → codesIn (ms ++ ns) ≡ codesIn ms ++ codesIn ns
@@ -104,6 +169,7 @@ queued-commands calls no-reset =
       all-pairs = pairs;
       all-codes = codes-in-order calls no-reset;
       well-packed = all;
+      held-is-next = held-by-calls calls freshSender fresh-good no-reset;
       sent-by-codes =
           sent-is-doubled calls freshSender fresh-good no-reset
           ∙ ap doubled (sym pairs)

@@ -2,6 +2,7 @@
 -- law; `queued-commands` in proofs/QueuedCommands.antt proves it.
 use mathlib.Core.Bool.{true, cond}
 use mathlib.Core.List.{List, [], _∷_, _++_}
+use mathlib.Core.Option.{Option, none}
 use mathlib.Core.Path.{_≡_}
 use Rattle.code.specs.Outcome.{Outcome, answer, refused}
 use Rattle.code.specs.Read.{isCommandPair}
@@ -10,7 +11,8 @@ use Rattle.code.specs.declared.pair.Pair.{Pair}
 use Rattle.queue.specs.Calls.{takenBy}
 use Rattle.queue.specs.Queue.{inside}
 use Rattle.queue.specs.Ring.{popRing}
-use Rattle.queue.specs.Made.{MadeOf, makesCommand}
+use Rattle.queue.specs.Ring as ring
+use Rattle.queue.specs.Made.{AfterHeld, MadeOf, makesCommand}
 use Rattle.queue.specs.declared.ring.Queue.{Queue}
 use Rattle.sender.specs.Calls.{Call, begun, inCalls, noReset, recordedAll, senderAfter}
 use Rattle.sender.specs.Sender.{freshSender, view}
@@ -20,18 +22,19 @@ use Rattle.sender.specs.declared.sender.Owed.the-variants as owed
 use Rattle.sender.specs.declared.sender.Sender.{Sender}
 use Rattle.agreement.specs.Agreement.{All, queuePairs, sentBy}
 
--- the queue's pairs, each with the codes that its pop took
+-- the queue's pairs, each with the codes that its pop took and the command that is held after it
 pub record Packed : Type 0 where
   pub pair : Pair
   pub codes : List Code
+  pub held : Option Code
 
-abbrev pub packedOf : Outcome Pair → List Code → List Packed
-packedOf (answer p) taken = record { pair = p; codes = taken } ∷ []
-packedOf (refused n) taken = []
+abbrev pub packedOf : Outcome Pair → List Code → Option Code → List Packed
+packedOf (answer p) taken held = record { pair = p; codes = taken; held = held } ∷ []
+packedOf (refused n) taken held = []
 
 abbrev pub packedBy : Owed → Queue → List Packed
 packedBy (owed.Repeat p) q = []
-packedBy owed.Absent q = packedOf (popRing q .0) (takenBy q)
+packedBy owed.Absent q = packedOf (popRing q .0) (takenBy q) (ring.view (popRing q .1) .held)
 
 abbrev pub packedPair : Sender → List Packed
 packedPair s = packedBy (s .repeats .owed) (s .queue)
@@ -47,9 +50,15 @@ abbrev pub codesIn : List Packed → List Code
 codesIn [] = []
 codesIn (m ∷ ms) = m .codes ++ codesIn ms
 
+-- from what is held before to what is held after: each pair takes the command that the one before it holds, alone, and
+-- one that needs a backspace only so
+abbrev pub HeldNext : Option Code → List Packed → Option Code → Type 0
+HeldNext before [] after = before ≡ after
+HeldNext before (m ∷ ms) after = AfterHeld before (m .codes) × HeldNext (m .held) ms after
+
 -- a pair that is made of its codes, and is a command pair exactly where they make it one
 pub record WellPacked (m : Packed) : Type 0 where
-  pub is-made-of : MadeOf (m .pair) (m .codes)
+  pub is-made-of : MadeOf (m .pair) (m .codes) (m .held)
   pub command : isCommandPair (m .pair) ≡ makesCommand (m .codes)
 
 -- a pair whose codes make a command is sent twice in a row, any other once
@@ -58,11 +67,12 @@ sentByCodes [] = []
 sentByCodes (m ∷ ms) = cond (makesCommand (m .codes)) (m .pair ∷ m .pair ∷ sentByCodes ms) (m .pair ∷ sentByCodes ms)
 
 -- of any run, whatever is still inside and whatever is still owed aside: these are the queue's pairs, each accepted code
--- is in one of them, in order, each is well packed, and they are sent by their codes
+-- is in one of them, in order, each is well packed, a held command is the next pair, and they are sent by their codes
 pub record QueuedCommands (calls : List Call) : Type 0 where
   pub all-pairs : pairsIn (packed calls freshSender) ≡ queuePairs calls freshSender
   pub all-codes : codesIn (packed calls freshSender) ++ inside (view (senderAfter calls freshSender) .queue) ≡ recordedAll calls (begun freshSender) .accepted
   pub well-packed : All WellPacked (packed calls freshSender)
+  pub held-is-next : HeldNext none (packed calls freshSender) (view (senderAfter calls freshSender) .queue .held)
   pub sent-by-codes : sentBy calls freshSender ++ stillOwed (senderAfter calls freshSender .repeats .owed) ≡ sentByCodes (packed calls freshSender)
 
 abbrev pub QueuedCommandsLaw : Type 0

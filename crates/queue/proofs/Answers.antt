@@ -9,8 +9,9 @@ use mathlib.Core.Path.{_≡_, refl, ap, sym, subst, _∙_}
 use Prim.Native.Nat.{ℕ, zero, suc, _*_, _≤_, _<_}
 use native.Mathlib.Omega.{arith}
 use lib.ListN.{replicate}
+use Rattle.code.proofs.OneAnswer.{clash, same}
 use Rattle.code.proofs.Written.{SentPair}
-use Rattle.code.specs.Outcome.{Outcome, answer, refused}
+use Rattle.code.specs.Outcome.{Outcome, answer}
 use Rattle.code.specs.Read.{isCommandPair, readPair}
 use Rattle.code.specs.declared.pair.Pair.{Pair}
 use Rattle.queue.proofs.Commands.{popped-is-a-command}
@@ -30,13 +31,9 @@ use Rattle.queue.specs.declared.ring.Queue.{Queue}
 -- an answer that is no refusal came from a well-formed state, and is the definition's
 pop-answer : (q : Queue) (p : Pair) (t : Bool) → wellFormed q ≡ t → popRing q .0 ≡ answer p → (wellFormed q ≡ true) × (p ≡ pop (view q) .pair)
 unfolding popRing
-pop-answer q p true e answered =
-    let same : _≡_ {A = Outcome Pair} (answer (pop (view q) .pair)) (answer p) = rw e at answered in
-    (e, cc)
+pop-answer q p true e answered = (e, sym (same (rw e at answered)))
 pop-answer q p false e answered =
-    let clash : _≡_ {A = Outcome Pair} (refused 12) (answer p) = sym (ap (λ (r : Outcome Pair × Queue). r .0) (ill-formed-pop q e)) ∙ answered in
-    let z : _≡_ {A = ℕ} 0 1 = cc in
-    absurd (omega arith)
+    absurd (clash (sym answered ∙ ap (λ (r : Outcome Pair × Queue). r .0) (ill-formed-pop q e)))
 
 pub sent-pair-is-odd : (q : Queue) (p : Pair) → popRing q .0 ≡ answer p → SentPair p
 sent-pair-is-odd q p answered =
@@ -60,13 +57,10 @@ sent-pair-is-a-command q p answered =
 count-answer : (q : Queue) (n : ℕ) (t : Bool) → wellFormed q ≡ t → countRing q .0 ≡ answer n → n ≤ 65
 unfolding countRing
 count-answer q n true e answered =
-    let same : _≡_ {A = Outcome ℕ} (answer (count (view q))) (answer n) = rw e at answered in
-    let here : count (view q) ≡ n = cc in
-    omega (arith, at-most-65 (view q) (good-fits q e))
+    let here : count (view q) ≡ n = same (rw e at answered) in
+    omega (arith, here, at-most-65 (view q) (good-fits q e))
 count-answer q n false e answered =
-    let clash : _≡_ {A = Outcome ℕ} (refused 12) (answer n) = sym (ap (λ (r : Outcome ℕ × Queue). r .0) (ill-formed-count q e)) ∙ answered in
-    let z : _≡_ {A = ℕ} 0 1 = cc in
-    absurd (omega arith)
+    absurd (clash (sym answered ∙ ap (λ (r : Outcome ℕ × Queue). r .0) (ill-formed-count q e)))
 
 pub n-codes-at-most-65 : (q : Queue) (n : ℕ) → countRing q .0 ≡ answer n → n ≤ 65
 n-codes-at-most-65 q n answered = count-answer q n (wellFormed q) refl answered
@@ -88,8 +82,7 @@ ring-emptied q g = ap count (pops-refine (2 * count (view q)) q g) ∙ emptied (
 -- the same by what `n_codes` answers before and after
 pub counted-down-to-none : (q : Queue) (n : ℕ) → Good q → countRing q .0 ≡ answer n → countRing (ringAfter (replicate (2 * n) popping) q) .0 ≡ answer 0
 counted-down-to-none q n g answered =
-    let told : answer (count (view q)) ≡ answer n = sym (ap (λ (r : Outcome ℕ × Queue). r .0) (count-refines q g)) ∙ answered in
-    let many : count (view q) ≡ n = cc in
+    let many = same (sym (ap (λ (r : Outcome ℕ × Queue). r .0) (count-refines q g)) ∙ answered) in
     let next = ringAfter (replicate (2 * n) popping) q in
     ap (λ (r : Outcome ℕ × Queue). r .0) (count-refines next (calls-stay-good (replicate (2 * n) popping) q g))
     ∙ ap answer (subst (λ (k : ℕ). count (view (ringAfter (replicate (2 * k) popping) q)) ≡ 0) many (ring-emptied q g))

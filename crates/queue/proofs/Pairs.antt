@@ -55,7 +55,7 @@ space-or-nul : (t : Bool) → SentByte (cond t 0x20 0x80)
 space-or-nul true = space-sent
 space-or-nul false = nul-sent
 
-may-queueable : (c : Code) → mayWait c ≡ true → isQueueable c ≡ true
+pub may-queueable : (c : Code) → mayWait c ≡ true → isQueueable c ≡ true
 may-queueable c e = both-right (not (isNul c)) (isQueueable c) e
 
 waiting-sent : (c : Code) → mayWait c ≡ true → SentPair (pairOf c)

@@ -1,4 +1,4 @@
--- The ring's list: how it begins, that places wrap around, and what it is once a code is stored at its end or places at
+-- The ring's list: how long it is, that places wrap around, and what it is once a code is stored at its end or places at
 -- its front are freed.
 -- Assumes nothing.
 use mathlib.Core.List.{List, [], _∷_, _++_}
@@ -18,16 +18,6 @@ pub place-is : (places : List ℕ) (at : ℕ) → at < 64 → getD places at 0 �
 place-is places at less =
     let here : at ≡ at % 64 = omega arith in
     ap (λ (k : ℕ). getD places k 0) here
-
-pub none-wait : (places : List ℕ) (at n : ℕ) → n ≡ 0 → codesFrom places at n ≡ []
-none-wait places at n e = ap (codesFrom places at) e
-
--- the first of those that wait, and the others
-pub first-waits : (places : List ℕ) (at n : ℕ) → 0 < n → codesFrom places at n ≡ codeAtPlace places at ∷ codesFrom places (at + 1) (n - 1)
-first-waits places at zero h = absurd (not-suc-le-zero h)
-first-waits places at (suc n) h =
-    let e : n ≡ suc n - 1 = omega arith in
-    ap (λ (k : ℕ). codeAtPlace places at ∷ codesFrom places (at + 1) k) e
 
 pub how-many : (places : List ℕ) (at n : ℕ) → length (codesFrom places at n) ≡ n
 how-many places at zero = refl

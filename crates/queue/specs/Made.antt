@@ -1,13 +1,12 @@
--- The pair that stands for the codes that a pop took and the command that it then holds, from 01's section "Queue and
--- sender": two single codes in their order; a single code with 0x80, or with 0x20 where the command now held needs a
--- backspace; a command by itself; and with nothing taken 20 80 before the command now held, or padding. And which of
--- these pairs are to be command pairs, by T-04: those that were made of a two-byte code. Half a command is the one
--- exception.
-use mathlib.Core.Bool.{Bool, false, cond, _||_, not}
+-- What a pair of the queue is made of, from 01's section "Queue and sender": the codes that its pop took and the command
+-- that is held after it; and what a pop takes by what was held before it. And which of these pairs are to be command
+-- pairs, by T-04: those that were made of a two-byte code. Half a command is the one exception.
+use Prim.Native.Nat.{ℕ}
+use mathlib.Core.Bool.{Bool, true, false, cond, _||_, not}
 use mathlib.Core.List.{List, [], _∷_}
 use mathlib.Core.Option.{Option, none, some}
 use mathlib.Core.Path.{_≡_}
-use Rattle.code.specs.Code.{needsBackspace}
+use Rattle.code.specs.Code.{byteLen, needsBackspace}
 use Rattle.code.specs.Outcome.{Outcome, answer, refused}
 use Rattle.code.specs.Read.{isCommand}
 use Rattle.code.specs.Pair.{pair}
@@ -15,14 +14,33 @@ use Rattle.code.specs.Write.{writeCode}
 use Rattle.code.specs.declared.code.Code.{Code}
 use Rattle.code.specs.declared.code.Code.the-variants as code
 use Rattle.code.specs.declared.pair.Pair.{Pair}
-use Rattle.queue.specs.Queue.{byteOf, isSingle, pairOf}
+use Rattle.queue.specs.Queue.{isSingle}
 
-abbrev pub pairFor : List Code → Option Code → Pair
-pairFor [] none = pair 0x80 0x80
-pairFor [] (some c) = pair 0x20 0x80
-pairFor (x ∷ []) none = cond (isSingle x) (pair (byteOf x) 0x80) (pairOf x)
-pairFor (x ∷ []) (some c) = pair (byteOf x) (cond (needsBackspace c) 0x20 0x80)
-pairFor (x ∷ y ∷ rest) h = pair (byteOf x) (byteOf y)
+-- a single code that is written as this byte, with 0x80 after it
+abbrev pub IsByte : Code → ℕ → Type 0
+IsByte x a = writeCode x ≡ answer (pair a 0x80, 1)
+
+-- with nothing to send, padding; a space where the command now held needs a backspace and no single code is before it; the
+-- last single code with 0x80; a single code before the command now held, with 0x80, or with 0x20 where that needs a
+-- backspace; two single codes in their order; a command by itself
+pub data MadeOf : Pair → List Code → Option Code → Type 0 where
+  padding : MadeOf (pair 0x80 0x80) [] none
+  space-before : (c : Code) → needsBackspace c ≡ true → MadeOf (pair 0x20 0x80) [] (some c)
+  last-single : (x : Code) (a : ℕ) → IsByte x a → MadeOf (pair a 0x80) (x ∷ []) none
+  single-before : (x c : Code) (a : ℕ) → IsByte x a → byteLen c ≡ 2 → MadeOf (pair a (cond (needsBackspace c) 0x20 0x80)) (x ∷ []) (some c)
+  two-singles : (x y : Code) (a b : ℕ) → IsByte x a → IsByte y b → MadeOf (pair a b) (x ∷ y ∷ []) none
+  command-alone : (c : Code) (p : Pair) → writeCode c ≡ answer (p, 2) → MadeOf p (c ∷ []) none
+
+-- whether a code among those taken needs a backspace
+abbrev pub hasBackspace : List Code → Bool
+hasBackspace [] = false
+hasBackspace (c ∷ cs) = needsBackspace c || hasBackspace cs
+
+-- what a pop takes, by what was held before it: the held command alone; and where none was held, no command that needs a
+-- backspace
+abbrev pub AfterHeld : Option Code → List Code → Type 0
+AfterHeld none taken = hasBackspace taken ≡ false
+AfterHeld (some c) taken = taken ≡ c ∷ []
 
 -- whether a pair that was read is a command
 abbrev pub readsCommand : Outcome (Code × Code) → Bool
@@ -49,9 +67,3 @@ halfCommandFirst (c ∷ cs) = isHalfCommand c
 -- which codes make a command pair: a two-byte code is among them or, which is the one exception, half a command is first
 abbrev pub makesCommand : List Code → Bool
 makesCommand codes = hasTwoByteCode codes || halfCommandFirst codes
-
--- what a pair is made of: single codes alone, or none, as they stand before the command that is then held, if any; or
--- one two-byte code, as it is written
-pub data MadeOf (p : Pair) : List Code → Type 0 where
-  of-singles : {l : List Code} (held : Option Code) → hasTwoByteCode l ≡ false → p ≡ pairFor l held → MadeOf p l
-  of-two-bytes : (c : Code) → writeCode c ≡ answer (p, 2) → MadeOf p (c ∷ [])

@@ -1,4 +1,5 @@
 pub mod Answers
+pub mod AnyState
 pub mod DrainedBytes
 pub mod ExactlySoMany
 pub mod Filling

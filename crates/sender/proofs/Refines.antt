@@ -79,7 +79,7 @@ push-good s c g =
 popped-as : (q : Queue) → queue.wellFormed q ≡ true → popRing q .1 ≡ leftIn q
 popped-as q e = ap (λ (r : Outcome Pair × Queue). r .1) (ring.popped-as q e)
 
-popped-view : (q : Queue) → queue.wellFormed q ≡ true → queue.view (popRing q .1) ≡ pop (queue.view q) .next
+pub popped-view : (q : Queue) → queue.wellFormed q ≡ true → queue.view (popRing q .1) ≡ pop (queue.view q) .next
 popped-view q e = ap queue.view (popped-as q e) ∙ ring.view-of-left q
 
 popped-formed : (q : Queue) → queue.wellFormed q ≡ true → queue.wellFormed (popRing q .1) ≡ true

@@ -100,7 +100,7 @@ pub send-fits : (s : Sending) → Fit (s .queue) → Fit (send s .next .queue)
 unfolding send
 send-fits s f = fits-after (s .repeats .owed) (s .queue) f
 
--- with none left it is idle, and while it is idle none is left
+-- with codes inside it is busy, and while it is idle none is left
 pub with-codes-busy : (s : Sending) → 0 < count (s .queue) → isIdle s ≡ false
 with-codes-busy s more = rw (ne-eqb (count (s .queue)) 0 (λ (e : count (s .queue) ≡ 0). omega (arith, e, more))) refl
 
@@ -114,13 +114,6 @@ idle-none (x ∷ l) h o e =
 
 pub idle-has-none-left : (s : Sending) → isIdle s ≡ true → sendsLeft s ≡ 0
 idle-has-none-left s e = idle-none (s .queue .waiting) (s .queue .held) (s .repeats .owed) e
-
-none-by : (s : Sending) (t : Bool) → isIdle s ≡ t → Fit (s .queue) → sendsLeft s ≡ 0 → isIdle s ≡ true
-none-by s true e f none-left = e
-none-by s false e f none-left = absurd (omega (arith, none-left, one-fewer-left s f e))
-
-pub none-left-is-idle : (s : Sending) → Fit (s .queue) → sendsLeft s ≡ 0 → isIdle s ≡ true
-none-left-is-idle s f e = none-by s (isIdle s) refl f e
 
 -- an idle one stays so: it sends padding
 pub idle-stays : (s : Sending) → isIdle s ≡ true → isIdle (send s .next) ≡ true
