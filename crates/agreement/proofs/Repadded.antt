@@ -3,7 +3,7 @@
 -- place between the two copies of a carriage return, where padding makes a window scroll twice.
 -- Assumes nothing.
 use mathlib.Core.Bool.{Bool, true, false, cond, true≢false}
-use mathlib.Core.List.{List, [], _∷_}
+use mathlib.Core.List.{List, [], _∷_, _++_}
 use mathlib.Core.Option.{Option}
 use mathlib.Core.Path.{_≡_, refl, ap, sym, _∙_}
 use lib.Count.{ones, onesIn}
@@ -122,3 +122,19 @@ doubled-scrolls-once = refl
 pub padded-inside-scrolls-twice : events (answers fresh (carriageReturn ∷ padding ∷ carriageReturn ∷ [])) ≡ event.CarriageReturn channelOne ∷ event.CarriageReturn channelOne ∷ []
 unfolding readPair ones onesIn step eventOf textEvent charOf meaning controlCodeOf
 padded-inside-scrolls-twice = refl
+
+-- Copies in pairs are not enough to go by. One of a backspace's copies is corrupted, a second backspace follows doubled,
+-- then padding, then one more copy: three act. Without the padding two do.
+abbrev backspace : Pair
+backspace = pair 0x94 0xA1
+
+abbrev firstCorrupted : List Pair
+firstCorrupted = pair 0x14 0xA1 ∷ backspace ∷ backspace ∷ backspace ∷ []
+
+pub three-backspaces-act : events (answers fresh (firstCorrupted ++ (padding ∷ backspace ∷ []))) ≡ event.Backspace channelOne ∷ event.Backspace channelOne ∷ event.Backspace channelOne ∷ []
+unfolding readPair ones onesIn step eventOf textEvent charOf meaning controlCodeOf
+three-backspaces-act = refl
+
+pub two-without-the-padding : events (answers fresh (firstCorrupted ++ (backspace ∷ []))) ≡ event.Backspace channelOne ∷ event.Backspace channelOne ∷ []
+unfolding readPair ones onesIn step eventOf textEvent charOf meaning controlCodeOf
+two-without-the-padding = refl

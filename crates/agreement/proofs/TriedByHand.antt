@@ -13,8 +13,8 @@ use Rattle.receiver.specs.Receiver.{step}
 use Rattle.receiver.specs.Heard.{eventOf, textEvent}
 use Rattle.event.specs.Mode.{modeOf}
 use Rattle.code.specs.Code.{charOf}
-use Rattle.agreement.specs.TriedByHand.{pairsTried, try, whatTheyGive}
+use Rattle.agreement.specs.TriedByHand.{Case, cases, try}
 
-pub tried-by-hand : map try pairsTried ≡ whatTheyGive
+pub tried-by-hand : map (λ (c : Case). try (c .tried)) cases ≡ map (λ (c : Case). c .gives) cases
 unfolding readPair ones onesIn writeCode inDomain queueable admit pairOf codeOf pop pushRing popRing wellFormed step eventOf textEvent modeOf charOf onLine controlBytes meaning controlCodeOf
 tried-by-hand = refl

@@ -1,6 +1,6 @@
 -- The agreement at any frame rate: the one rule of the customer's letter. "A field carries one byte pair, a film-rate master
 -- has fewer fields than a broadcast tape, and the padding changes with every conversion. The words on the screen must not."
--- As playout does it: the queue's pairs are padded anew, each command is doubled and sent, and the line spoils what the
+-- As playout does it: the queue's pairs are padded anew, each command is doubled and sent, and the line corrupts what the
 -- letter allows. `AnyFrameRateLaw` at the end is the law; `at-any-frame-rate` in proofs/AnyFrameRate.antt proves it.
 use mathlib.Core.Bool.{cond}
 use mathlib.Core.List.{List, [], _∷_}

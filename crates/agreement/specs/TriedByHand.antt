@@ -7,9 +7,8 @@ use mathlib.Core.Option.{Option, none, some}
 use lib.ListN.{replicate}
 use Rattle.code.specs.Channel.{channelOne, fieldOne, fieldTwo}
 use Rattle.code.specs.MidRow.{italic}
-use Rattle.code.specs.Letter.{letterAt}
 use Rattle.code.specs.Outcome.{Outcome, answer}
-use Rattle.code.specs.Read.{readPair}
+use Rattle.code.specs.Read.{readPair, single}
 use Rattle.code.specs.Pair.{pair}
 use Rattle.code.specs.declared.code.Code.{Code}
 use Rattle.code.specs.declared.code.Code.the-variants as code
@@ -48,18 +47,20 @@ try (reads p) = codes (readPair (p .0) (p .1))
 try (hears ps) = heard (answers fresh ps)
 try (queues cs n) = replies (ringReplies (map pushing cs ++ replicate n popping) freshRing)
 
-abbrev letter-H : Code
-letter-H = code.Letter (letterAt 0x28)
+-- what is tried, and what it gives
+pub record Case : Type 0 where
+  pub tried : Tried
+  pub gives : Gave
 
-abbrev pub pairsTried : List Tried
-pairsTried =
-    reads (pair 0x10 0x40) ∷ reads (pair 0x10 0xE0) ∷ reads (pair 0x15 0x2C) ∷ reads (pair 0x94 0x2C) ∷ reads (pair 0x97 0xA1)
-    ∷ reads (pair 0x91 0xAE) ∷ hears (rollUp2 ∷ rollUp2 ∷ rollUp2 ∷ []) ∷ hears (rollUp2 ∷ padding ∷ rollUp2 ∷ [])
-    ∷ hears (hi ∷ []) ∷ queues [] 1 ∷ queues (letter-H ∷ A-acute ∷ []) 2 ∷ queues (A-acute ∷ []) 2 ∷ []
+abbrev case : Tried → Gave → Case
+case t g = record { tried = t; gives = g }
 
 -- a pair read as a command on channel one
 abbrev readAs : CodeField → Control → Gave
 readAs f c = codes (answer (code.Control (record { field = f; channel = channelOne; control = c }), code.Nul))
+
+abbrev row-10-white : Control
+row-10-white = control.Preamble (record { row = 10; underline = false; ty = style.Color White })
 
 abbrev two-rows : Outcome (Option Cea608)
 two-rows = answer (some (event.NewMode channelOne RollUp2))
@@ -70,14 +71,20 @@ accepted = toPush (answer tt)
 abbrev popGives : ℕ → ℕ → Reply
 popGives a b = toPop (answer (pair a b))
 
+abbrev letter-H : Code
+letter-H = single 0x48
+
 -- row 10 white; no row; erase for field two and for field one; tab 1; italics; an event, none, an event; two events; none;
 -- padding; H and a space, then Á; a space, then Á
-abbrev pub whatTheyGive : List Gave
-whatTheyGive =
-    readAs Absent (control.Preamble (record { row = 10; underline = false; ty = style.Color White }))
-    ∷ readAs Absent (control.Unknown 0x10 0x60) ∷ readAs (Of fieldTwo) (control.Command EraseDisplayedMemory)
-    ∷ readAs (Of fieldOne) (control.Command EraseDisplayedMemory) ∷ readAs Absent (control.Tab TabOffset1)
-    ∷ readAs Absent (control.MidRow (italic false)) ∷ heard (two-rows ∷ answer none ∷ two-rows ∷ [])
-    ∷ heard (two-rows ∷ answer none ∷ two-rows ∷ []) ∷ heard (answer none ∷ []) ∷ replies (popGives 0x80 0x80 ∷ [])
-    ∷ replies (accepted ∷ accepted ∷ popGives 0xC8 0x20 ∷ popGives 0x92 0x20 ∷ [])
-    ∷ replies (accepted ∷ popGives 0x20 0x80 ∷ popGives 0x92 0x20 ∷ []) ∷ []
+abbrev pub cases : List Case
+cases =
+    case (reads (pair 0x10 0x40)) (readAs Absent row-10-white) ∷ case (reads (pair 0x10 0xE0)) (readAs Absent (control.Unknown 0x10 0x60))
+    ∷ case (reads (pair 0x15 0x2C)) (readAs (Of fieldTwo) (control.Command EraseDisplayedMemory))
+    ∷ case (reads (pair 0x94 0x2C)) (readAs (Of fieldOne) (control.Command EraseDisplayedMemory))
+    ∷ case (reads (pair 0x97 0xA1)) (readAs Absent (control.Tab TabOffset1))
+    ∷ case (reads (pair 0x91 0xAE)) (readAs Absent (control.MidRow (italic false)))
+    ∷ case (hears (rollUp2 ∷ rollUp2 ∷ rollUp2 ∷ [])) (heard (two-rows ∷ answer none ∷ two-rows ∷ []))
+    ∷ case (hears (rollUp2 ∷ padding ∷ rollUp2 ∷ [])) (heard (two-rows ∷ answer none ∷ two-rows ∷ []))
+    ∷ case (hears (hi ∷ [])) (heard (answer none ∷ [])) ∷ case (queues [] 1) (replies (popGives 0x80 0x80 ∷ []))
+    ∷ case (queues (letter-H ∷ A-acute ∷ []) 2) (replies (accepted ∷ accepted ∷ popGives 0xC8 0x20 ∷ popGives 0x92 0x20 ∷ []))
+    ∷ case (queues (A-acute ∷ []) 2) (replies (accepted ∷ popGives 0x20 0x80 ∷ popGives 0x92 0x20 ∷ [])) ∷ []

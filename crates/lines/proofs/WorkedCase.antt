@@ -1,4 +1,4 @@
--- 01's worked case of the listing, which antt computes from the definition.
+-- 01's worked case of the listing, and a case with the other kinds of line, which antt computes from the definition.
 -- Assumes nothing.
 use mathlib.Core.List.{List, [], _∷_, _++_}
 use mathlib.Core.Path.{_≡_, refl}
@@ -31,3 +31,21 @@ text =
 pub worked-case : listing input ≡ text
 unfolding listing decimal ones onesIn standard symbols readPair step eventOf textEvent modeOf charOf meaning controlCodeOf
 worked-case = refl
+
+-- paint-on, roll-up 3 and 4, erase, erase hidden, backspace, end, tab, delete, row 5 in white italics underlined, italics
+-- underlined in the row, and a character in second place only
+abbrev other-kinds : List ℕ
+other-kinds =
+    0x1C ∷ 0x29 ∷ 0x1C ∷ 0x26 ∷ 0x1C ∷ 0xA7 ∷ 0x1C ∷ 0x2C ∷ 0x1C ∷ 0xAE ∷ 0x1C ∷ 0xA1 ∷ 0x1C ∷ 0x2F ∷ 0x1F ∷ 0xA2 ∷ 0x1C
+    ∷ 0xA4 ∷ 0x15 ∷ 0xEF ∷ 0x19 ∷ 0x2F ∷ 0x80 ∷ 0xE9 ∷ []
+
+abbrev other-lines : List ℕ
+other-lines =
+    ended
+    (points "0 mode 2 paint" ∷ points "1 mode 2 roll3" ∷ points "2 mode 2 roll4" ∷ points "3 erase 2" ∷ points "4 erasehidden 2"
+    ∷ points "5 back 2" ∷ points "6 end 2" ∷ points "7 tab 2 2" ∷ points "8 delete 2" ∷ points "9 row 1 5 7 1" ∷ points "10 mid 2 7 1"
+    ∷ points "11 text 2 0 - 0069" ∷ points "pairs 12 refused 0" ∷ [])
+
+pub the-other-kinds : listing other-kinds ≡ other-lines
+unfolding listing decimal ones onesIn standard symbols readPair step eventOf textEvent modeOf charOf meaning controlCodeOf
+the-other-kinds = refl
