@@ -40,7 +40,7 @@ rowPrefixes =
     ∷ pair 0x16 0x60 ∷ pair 0x17 0x40 ∷ pair 0x17 0x60 ∷ pair 0x10 0x40 ∷ pair 0x13 0x40 ∷ pair 0x13 0x60 ∷ pair 0x14 0x40
     ∷ pair 0x14 0x60 ∷ []
 
--- above row 14 there is none
+-- a row above 14 is refused (3) before it is written, so that what stands for it here does not matter
 abbrev pub rowPrefix : ℕ → Pair
 rowPrefix row = getD rowPrefixes row (pair 0 0)
 

@@ -107,7 +107,7 @@ pub fn sessions(to: &mut Transcript, random: &mut Random) {
         met.arrived,
         met.sessions,
         met.drained,
-        met.hits.spoiled,
+        met.hits.corrupted,
         met.before_sending.put_in,
         met.as_received.put_in,
         met.noticed
@@ -153,7 +153,7 @@ fn notice(to: &mut Transcript, random: &mut Random, came: &[Arrived], met: &mut 
     let mut padded = came.to_vec();
     let padding = Arrived {
         pair: PADDING,
-        spoiled: false,
+        corrupted: false,
     };
     padded.insert(place, padding);
     hear(to, &padded);
@@ -321,14 +321,14 @@ fn read_once(pairs: &[Pair]) -> Told {
 /// The agreement of demand 3, or the end of the run.
 fn check(spoken: &Spoken, arrived: &[Arrived], story: &Story) {
     let once = read_once(&spoken.popped);
-    let spoiled: Vec<bool> = arrived.iter().map(|arrived| arrived.spoiled).collect();
-    if story.told == once && story.refused == spoiled {
+    let corrupted: Vec<bool> = arrived.iter().map(|arrived| arrived.corrupted).collect();
+    if story.told == once && story.refused == corrupted {
         return;
     }
     let came: Vec<Pair> = arrived.iter().map(|arrived| arrived.pair).collect();
     panic!(
         "the agreement of demand 3 fails\n  sent: {:02X?}\n  arrived: {came:02X?}\n  \
-         heard: {:?}\n  queued: {once:?}\n  refused: {:?}\n  spoiled: {spoiled:?}",
+         heard: {:?}\n  queued: {once:?}\n  refused: {:?}\n  corrupted: {corrupted:?}",
         spoken.sent, story.told, story.refused
     );
 }
@@ -412,7 +412,7 @@ fn limits(to: &mut Transcript) {
             .into_iter()
             .map(|pair| Arrived {
                 pair,
-                spoiled: !is_odd(pair),
+                corrupted: !is_odd(pair),
             })
             .collect();
         let told = hear(to, &arrived).told;
@@ -450,5 +450,5 @@ pub fn sample(to: &mut Transcript) {
     for changed in changed {
         assert!(changed.put_in > 5 && changed.taken_out > 5);
     }
-    assert!(met.hits.spoiled > 5 && met.drained > 5);
+    assert!(met.hits.corrupted > 5 && met.drained > 5);
 }

@@ -11,13 +11,13 @@ pub type Pair = [u8; 2];
 #[derive(Clone, Copy)]
 pub struct Arrived {
     pub pair: Pair,
-    pub spoiled: bool,
+    pub corrupted: bool,
 }
 
 /// What a line did, all sessions together.
 #[derive(Default)]
 pub struct Hits {
-    pub spoiled: usize,
+    pub corrupted: usize,
     /// By how many bits of the first byte and of the second are turned.
     by_bits: [[usize; 9]; 9],
     first_copies: usize,
@@ -58,14 +58,14 @@ pub fn carry(sent: &[Pair], random: &mut Random, one_in: u32, hits: &mut Hits) -
             hits.longest_stretch = hits.longest_stretch.max(length);
         }
         for copy in 0..length {
-            let spoiled = place == Some(copy);
+            let corrupted = place == Some(copy);
             arrived.push(Arrived {
-                pair: if spoiled {
-                    spoil(pair, random, hits)
+                pair: if corrupted {
+                    corrupt(pair, random, hits)
                 } else {
                     pair
                 },
-                spoiled,
+                corrupted,
             });
         }
         rest = &rest[length..];
@@ -74,7 +74,7 @@ pub fn carry(sent: &[Pair], random: &mut Random, one_in: u32, hits: &mut Hits) -
 }
 
 /// A command pair with some bits turned, an odd number of them in one byte at least.
-fn spoil([first, second]: Pair, random: &mut Random, hits: &mut Hits) -> Pair {
+fn corrupt([first, second]: Pair, random: &mut Random, hits: &mut Hits) -> Pair {
     let bits = loop {
         let bits = [random.below(9), random.below(9)];
         if bits.iter().any(|bits| bits % 2 == 1) {
@@ -87,7 +87,7 @@ fn spoil([first, second]: Pair, random: &mut Random, hits: &mut Hits) -> Pair {
     ];
     assert!(!is_odd(pair), "parity does not show {pair:02X?}");
     hits.by_bits[bits[0] as usize][bits[1] as usize] += 1;
-    hits.spoiled += 1;
+    hits.corrupted += 1;
     pair
 }
 

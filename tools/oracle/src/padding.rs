@@ -84,7 +84,7 @@ impl Padding {
     ) -> Vec<Arrived> {
         let padding = Arrived {
             pair: PADDING,
-            spoiled: false,
+            corrupted: false,
         };
         let mut all = vec![];
         let mut last = None;
