@@ -9,10 +9,9 @@ use mathlib.Core.Path.{_≡_, refl, ap, sym, subst, _∙_}
 use lib.Count.{ones, onesIn}
 use lib.ListN.{replicate}
 use Rattle.code.specs.Characters.{standard}
-use Rattle.code.specs.Letter.{letterAt}
 use Rattle.code.specs.Outcome.{Outcome, answer, refused}
 use Rattle.code.specs.Pair.{samePair}
-use Rattle.code.specs.Read.{controlCodeOf, meaning, readPair}
+use Rattle.code.specs.Read.{controlCodeOf, meaning, readPair, single}
 use Rattle.code.specs.Pair.{pair}
 use Rattle.code.specs.Write.{controlBytes, inDomain, onLine, writeCode}
 use Rattle.code.specs.declared.code.Code.{Code}
@@ -154,7 +153,7 @@ at-any-frame-rate calls padded arrived same line =
 -- a carriage return and text are queued, and padding is put in between: it goes after the two copies of the command
 abbrev caption : List Call
 caption =
-    pushing (command CarriageReturn) ∷ pushing (code.Letter (letterAt 0x28)) ∷ pushing (code.Letter (letterAt 0x49))
+    pushing (command CarriageReturn) ∷ pushing (single 0x48) ∷ pushing (single 0x69)
     ∷ draining (replicate 6 0) 0 3 ∷ []
 
 abbrev paddedCaption : List Pair

@@ -11,8 +11,7 @@ use lib.Count.{ones, onesIn}
 use lib.ListN.{length, replicate}
 use Rattle.code.specs.Channel.{channelOne, fieldOne}
 use Rattle.code.specs.Characters.{standard}
-use Rattle.code.specs.Letter.{letterAt}
-use Rattle.code.specs.Read.{controlCodeOf, meaning, readPair}
+use Rattle.code.specs.Read.{controlCodeOf, meaning, readPair, single}
 use Rattle.code.specs.Pair.{pair}
 use Rattle.code.specs.Write.{controlBytes, inDomain, onLine, writeCode}
 use Rattle.code.specs.declared.character.Character.the-variants as character
@@ -53,8 +52,8 @@ command c = code.Control (record { field = Of fieldOne; channel = channelOne; co
 -- one pair is sent, and a drain writes the others into nine bytes, from the second byte on
 abbrev programme : List Call
 programme =
-    pushing (command RollUp2) ∷ pushing (command CarriageReturn) ∷ pushing (code.Letter (letterAt 0x28))
-    ∷ pushing (code.Letter (letterAt 0x49)) ∷ sending ∷ asking ∷ draining (replicate 9 0) 1 100 ∷ []
+    pushing (command RollUp2) ∷ pushing (command CarriageReturn) ∷ pushing (single 0x48)
+    ∷ pushing (single 0x69) ∷ sending ∷ asking ∷ draining (replicate 9 0) 1 100 ∷ []
 
 abbrev modeEvent : Cea608
 modeEvent = event.NewMode channelOne mode.RollUp2
@@ -73,7 +72,7 @@ unfolding ones onesIn writeCode inDomain queueable admit pairOf codeOf pop pushR
 what-is-sent = (refl, refl, refl, refl)
 
 -- the codes of each pair
-pub what-it-is-made-of : packed programme freshSender ≡ record { pair = rollUp2; codes = command RollUp2 ∷ []; held = none } ∷ record { pair = carriageReturn; codes = command CarriageReturn ∷ []; held = none } ∷ record { pair = hi; codes = code.Letter (letterAt 0x28) ∷ code.Letter (letterAt 0x49) ∷ []; held = none } ∷ []
+pub what-it-is-made-of : packed programme freshSender ≡ record { pair = rollUp2; codes = command RollUp2 ∷ []; held = none } ∷ record { pair = carriageReturn; codes = command CarriageReturn ∷ []; held = none } ∷ record { pair = hi; codes = single 0x48 ∷ single 0x69 ∷ []; held = none } ∷ []
 unfolding ones onesIn writeCode inDomain queueable admit pairOf codeOf pop pushRing popRing ring.wellFormed wellFormed pushSender send sendSender drainSender idleSender onLine controlBytes meaning
 what-it-is-made-of = refl
 
@@ -135,9 +134,9 @@ no-agreement-over-corrupted-text agrees = fails textCorrupted (ap length corrupt
 -- half a command: `Unknown` 14 before A is one pair of two single codes, 94 C1, and is sent twice
 abbrev halfACommand : List Call
 halfACommand =
-    pushing (code.Unknown 0x14) ∷ pushing (code.Letter (letterAt 0x21)) ∷ sending ∷ sending ∷ []
+    pushing (code.Unknown 0x14) ∷ pushing (single 0x41) ∷ sending ∷ sending ∷ []
 
-pub half-a-command-is-sent-twice : (packed halfACommand freshSender ≡ record { pair = pair 0x94 0xC1; codes = code.Unknown 0x14 ∷ code.Letter (letterAt 0x21) ∷ []; held = none } ∷ []) × (sentBy halfACommand freshSender ≡ pair 0x94 0xC1 ∷ pair 0x94 0xC1 ∷ [])
+pub half-a-command-is-sent-twice : (packed halfACommand freshSender ≡ record { pair = pair 0x94 0xC1; codes = code.Unknown 0x14 ∷ single 0x41 ∷ []; held = none } ∷ []) × (sentBy halfACommand freshSender ≡ pair 0x94 0xC1 ∷ pair 0x94 0xC1 ∷ [])
 unfolding ones onesIn writeCode inDomain queueable admit pairOf codeOf pop pushRing popRing ring.wellFormed wellFormed pushSender send sendSender
 half-a-command-is-sent-twice = (refl, refl)
 

@@ -22,9 +22,9 @@ use Rattle.code.specs.Outcome.{Outcome, answer}
 use Rattle.code.specs.Pair.{pair}
 use Rattle.code.specs.Parity.{stripped, withParity}
 use Rattle.code.specs.Range.{within}
-use Rattle.code.specs.Read.{channelOf, controlCodeOf, fieldOf, isCommand, isCommandPair, isOddPair, meaning, orUnknown, readPair, single, withoutChannel, withoutField}
+use Rattle.code.specs.Read.{channelOf, controlCodeOf, fieldOf, isCommand, isCommandPair, meaning, orUnknown, readPair, single, withoutChannel, withoutField}
 use Rattle.code.specs.ReadBack.{ReadsBack, TextReadsBack, fieldRead, isPlain}
-use Rattle.code.specs.Write.{asSingle, controlBytes, isFieldTwo, midRowBytes, onLine, preambleBytes, symbolBytes, together, withChannel, withField, writeCode, writeTwo}
+use Rattle.code.specs.Write.{asSingle, controlBytes, isFieldTwo, midRowBytes, onLine, preambleBytes, symbolBytes, together, withChannel, withField, writeCode}
 use Rattle.code.specs.declared.channel.Channel.{Channel}
 use Rattle.code.specs.declared.code.Code.{Code}
 use Rattle.code.specs.declared.code.Code.the-variants as code

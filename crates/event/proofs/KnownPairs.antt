@@ -1,6 +1,6 @@
 -- The known pairs are what their events are written as; and the services and the rows of a window by their numbers.
 -- Assumes nothing.
-use mathlib.Core.List.{List, [], _∷_, map}
+use mathlib.Core.List.{[], _∷_, map}
 use mathlib.Core.Option.{none, some}
 use mathlib.Core.Path.{_≡_, refl}
 use lib.Count.{ones, onesIn}

@@ -14,9 +14,8 @@ use Rattle.code.proofs.CommandCodes.{written-says-command}
 use Rattle.code.proofs.Written.{domain-is-written, settled, written-is-sent}
 use Rattle.code.specs.Channel.{channelOne}
 use Rattle.code.specs.Code.{byteLen}
-use Rattle.code.specs.Letter.{letterAt}
 use Rattle.code.specs.Outcome.{Outcome, answer, refused}
-use Rattle.code.specs.Read.{controlCodeOf, isCommandPair, meaning, readPair}
+use Rattle.code.specs.Read.{controlCodeOf, isCommandPair, meaning, readPair, single}
 use Rattle.code.specs.Pair.{pair}
 use Rattle.code.specs.Write.{inDomain, isCommandCode, isCommandControl, writeCode}
 use Rattle.code.specs.declared.code.Code.{Code}
@@ -107,7 +106,7 @@ abbrev accepted : Reply
 accepted = toPush (answer tt)
 
 abbrev letter-A : Code
-letter-A = code.Letter (letterAt 0x21)
+letter-A = single 0x41
 
 -- the exception: `Unknown` 14 before A goes out as 94 C1, which a receiver reads as a preamble, row 13 in white, underlined
 abbrev row-13-underlined : Code

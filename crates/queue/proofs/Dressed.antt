@@ -12,8 +12,8 @@ use lib.ListN.{replicate}
 use Rattle.code.proofs.Both.{both-left, both-right}
 use Rattle.code.specs.Channel.{channelOne, channelTwo}
 use Rattle.code.specs.Code.{byteLen}
-use Rattle.code.specs.Letter.{letterAt}
 use Rattle.code.specs.Outcome.{Outcome, answer, refused}
+use Rattle.code.specs.Read.{single}
 use Rattle.code.specs.Pair.{pair}
 use Rattle.code.specs.Write.{controlBytes, inDomain, isCommandCode, isCommandControl, onLine, writeCode}
 use Rattle.code.specs.declared.channel.Channel.{Channel}
@@ -112,7 +112,7 @@ abbrev accepted : Reply
 accepted = toPush (answer tt)
 
 abbrev letter-A : Code
-letter-A = code.Letter (letterAt 0x21)
+letter-A = single 0x41
 
 -- the two-byte `Unknown` of a channel
 abbrev unknown : Channel → ℕ → ℕ → Code

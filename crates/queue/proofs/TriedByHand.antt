@@ -6,8 +6,8 @@ use mathlib.Core.List.{List, [], _∷_, _++_}
 use mathlib.Core.Path.{_≡_, refl, _∙_}
 use lib.Count.{ones, onesIn}
 use lib.ListN.{replicate}
-use Rattle.code.specs.Letter.{letterAt}
 use Rattle.code.specs.Outcome.{answer, refused}
+use Rattle.code.specs.Read.{single}
 use Rattle.code.specs.Pair.{pair}
 use Rattle.code.specs.Write.{inDomain, writeCode}
 use Rattle.code.specs.declared.code.Code.{Code}
@@ -23,13 +23,13 @@ abbrev accepted : Reply
 accepted = toPush (answer tt)
 
 abbrev letter-H : Code
-letter-H = code.Letter (letterAt 0x28)
+letter-H = single 0x48
 
 abbrev letter-i : Code
-letter-i = code.Letter (letterAt 0x49)
+letter-i = single 0x69
 
 abbrev exclamation : Code
-exclamation = code.Letter (letterAt 0x01)
+exclamation = single 0x21
 
 -- the replies due to each sequence of calls, those to the pushes included
 abbrev Tried : (List Call → List Reply) → Type 0

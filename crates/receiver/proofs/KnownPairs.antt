@@ -1,7 +1,7 @@
 -- The known pairs are decoded as their events; those without an event give none; and each leaves its channel and field.
 -- Assumes nothing.
 use mathlib.Core.Bool.{false}
-use mathlib.Core.List.{List, [], _∷_, map}
+use mathlib.Core.List.{[], _∷_, map}
 use mathlib.Core.Option.{none, some}
 use mathlib.Core.Path.{_≡_, refl}
 use lib.Count.{ones, onesIn}
