@@ -56,7 +56,7 @@ programme =
     pushing (command RollUp2) ∷ pushing (command CarriageReturn) ∷ pushing (code.Letter (letterAt 0x28))
     ∷ pushing (code.Letter (letterAt 0x49)) ∷ sending ∷ asking ∷ draining (replicate 9 0) 1 100 ∷ []
 
-abbrev modeEvent : Cea608
+abbrev pub modeEvent : Cea608
 modeEvent = event.NewMode channelOne mode.RollUp2
 
 abbrev pub returnEvent : Cea608
@@ -133,7 +133,7 @@ pub no-agreement-over-corrupted-text : Agreement (queuePairs programme freshSend
 no-agreement-over-corrupted-text agrees = fails textCorrupted (ap length corrupted-text-loses-words) agrees
 
 -- half a command: `Unknown` 14 before A is one pair of two single codes, 94 C1, and is sent twice
-abbrev halfACommand : List Call
+abbrev pub halfACommand : List Call
 halfACommand =
     pushing (code.Unknown 0x14) ∷ pushing (code.Letter (letterAt 0x21)) ∷ sending ∷ sending ∷ []
 
