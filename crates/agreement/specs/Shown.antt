@@ -1,6 +1,6 @@
 -- What is shown depends on the accepted codes alone. How letters fall into pairs depends on when the sender is run: H that
 -- is sent before i is pushed goes out as C8 80, and i as E9 80; both pushed first go out as C8 E9. So the events differ, and
--- their characters, one by one, do not. `ShownLaw` says what is shown: what each accepted code shows that is sent alone.
+-- their characters, one by one, do not. `ShownLaw` says what is shown: what each accepted code shows when it is sent alone.
 -- `TwoRunsLaw`, at the end, says that two runs show the same. proofs/Shown.antt proves both.
 use mathlib.Core.Bool.{Bool, true, false, cond, _&&_, not}
 use mathlib.Core.List.{List, [], _∷_, _++_}
