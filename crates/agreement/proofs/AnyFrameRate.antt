@@ -50,7 +50,7 @@ use Rattle.code.specs.Code.{charOf}
 use Rattle.agreement.specs.Pairs.{carriageReturn, hi, padding}
 
 -- read once, a pair gives the same from states of one channel and field, and leaves such states
-abbrev SameSteps : Stepped → Stepped → Type 0
+abbrev pub SameSteps : Stepped → Stepped → Type 0
 SameSteps x y = (x .0 ≡ y .0) × Same (x .1) (y .1)
 
 module _ (s t : Cea608State) (p : Pair) (same : Same s t) where
@@ -70,7 +70,7 @@ module _ (s t : Cea608State) (p : Pair) (same : Same s t) where
   same-reading (answer codes) = same-codes (codes .0) (codes .1)
   same-reading (refused n) = (refl, record { channel = same .channel; field = same .field })
 
-  same-once : SameSteps (once s p) (once t p)
+  pub same-once : SameSteps (once s p) (once t p)
   unfolding step
   same-once = same-reading (readPair (p .0) (p .1))
 

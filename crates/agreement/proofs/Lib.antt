@@ -12,4 +12,5 @@ pub mod QueuedCommands
 pub mod Refused
 pub mod Repadded
 pub mod Settled
+pub mod Shown
 pub mod TriedByHand

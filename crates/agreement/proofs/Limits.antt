@@ -55,7 +55,7 @@ programme =
     pushing (command RollUp2) ∷ pushing (command CarriageReturn) ∷ pushing (single 0x48)
     ∷ pushing (single 0x69) ∷ sending ∷ asking ∷ draining (replicate 9 0) 1 100 ∷ []
 
-abbrev modeEvent : Cea608
+abbrev pub modeEvent : Cea608
 modeEvent = event.NewMode channelOne mode.RollUp2
 
 abbrev pub returnEvent : Cea608
@@ -132,7 +132,7 @@ pub no-agreement-over-corrupted-text : Agreement (queuePairs programme freshSend
 no-agreement-over-corrupted-text agrees = fails textCorrupted (ap length corrupted-text-loses-words) agrees
 
 -- half a command: `Unknown` 14 before A is one pair of two single codes, 94 C1, and is sent twice
-abbrev halfACommand : List Call
+abbrev pub halfACommand : List Call
 halfACommand =
     pushing (code.Unknown 0x14) ∷ pushing (single 0x41) ∷ sending ∷ sending ∷ []
 

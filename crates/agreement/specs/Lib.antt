@@ -6,4 +6,5 @@ pub mod FrameRate
 pub mod OneByOne
 pub mod Pairs
 pub mod QueuedCommands
+pub mod Shown
 pub mod TriedByHand

@@ -14,3 +14,7 @@ carriageReturn = pair 0x94 0xAD
 -- the letters H and i
 abbrev pub hi : Pair
 hi = pair 0xC8 0xE9
+
+-- a space alone
+abbrev pub spaceAlone : Pair
+spaceAlone = pair 0x20 0x80
