@@ -19,7 +19,6 @@ use Rattle.code.proofs.Written.{nul-sent, written-is-sent}
 use Rattle.code.specs.Channel.{channelOne}
 use Rattle.code.specs.Characters.{standard}
 use Rattle.code.specs.Code.{charOf, needsBackspace}
-use Rattle.code.specs.Letter.{letterAt}
 use Rattle.code.specs.Outcome.{Outcome, answer, refused}
 use Rattle.code.specs.Pair.{pair}
 use Rattle.code.specs.Parity.{isOdd, stripped}
@@ -37,7 +36,7 @@ use Rattle.code.specs.declared.preamble.PreambleType.the-variants as style
 use Rattle.event.specs.Mode.{modeOf}
 use Rattle.event.specs.declared.event.Cea608.{Cea608}
 use Rattle.event.specs.declared.event.Cea608.the-variants as event
-use Rattle.queue.specs.Made.{AfterHeld, IsByte, MadeOf, command-alone, last-single, padding, single-before, space-before, two-singles, hasBackspace, isHalfCommand}
+use Rattle.queue.specs.Made.{AfterHeld, IsByte, MadeOf, command-alone, last-single, nothing-to-send, single-before, space-before, two-singles, hasBackspace, isHalfCommand}
 use Rattle.queue.specs.Number.{codeOf}
 use Rattle.queue.specs.Queue.{Queued, admit, count, heldCodes, inside, pairOf, pairWritten, pop}
 use Rattle.queue.specs.Queueable.{queueable}
@@ -62,10 +61,9 @@ use Rattle.agreement.proofs.Limits.{command, halfACommand, modeEvent}
 use Rattle.agreement.proofs.Padding.{afterPadding, padding-once}
 use Rattle.agreement.proofs.QueuedCommands.{queued-commands}
 use Rattle.agreement.specs.Agreement.{Agreement, All, EndsIdle, queuePairs, sentBy}
-use Rattle.agreement.specs.Pairs as pairs
-use Rattle.agreement.specs.Pairs.{hi, rollUp2, spaceAlone}
+use Rattle.agreement.specs.Pairs.{hi, padding, rollUp2, spaceAlone}
 use Rattle.agreement.specs.QueuedCommands.{HeldNext, Packed, WellPacked, codesIn, packed, pairsIn}
-use Rattle.agreement.specs.Shown.{as-sent, padded-anew, Shows, ShownLaw, TwoRunsLaw, WholeRun, acceptedIn, eachAlone, noHalfCommand, oneByOne, shown}
+use Rattle.agreement.specs.Shown.{as-sent, padded-anew, Shows, ShownLaw, TwoRunsLaw, WholeRun, acceptedIn, eachAlone, noHalfCommand, byCharacter, shown}
 
 -- what an answer shows stands before what the answers after it show
 abbrev shownBy : Outcome (Option Cea608) → List Cea608
@@ -73,7 +71,7 @@ shownBy o = shown (events (o ∷ []))
 
 shown-first : (o : Outcome (Option Cea608)) (os : List (Outcome (Option Cea608))) → shown (events (o ∷ os)) ≡ shownBy o ++ shown (events os)
 shown-first (answer none) os = refl
-shown-first (answer (some e)) os = ap (λ (l : List Cea608). l ++ shown (events os)) (sym (append-nil (oneByOne e)))
+shown-first (answer (some e)) os = ap (λ (l : List Cea608). l ++ shown (events os)) (sym (append-nil (byCharacter e)))
 shown-first (refused n) os = refl
 
 -- two streams that show the same, read once from states of one channel and field, and end in such states
@@ -89,7 +87,7 @@ same-first p ps qs go s t same =
       later .1,
     )
 
-padding-first : (ps qs : List Pair) → Alike ps qs → Alike (pairs.padding ∷ ps) qs
+padding-first : (ps qs : List Pair) → Alike ps qs → Alike (padding ∷ ps) qs
 padding-first ps qs go s t same =
     rw (padding-once s) (go (afterPadding s) t (record { channel = same .channel; field = same .field }))
 
@@ -212,8 +210,8 @@ module _ (ps : List Pair) (codes : List Code) where
 
   -- a pair shows what its codes show, and the space before the command that is then held
   by-made : (before : Option Code) {p : Pair} {taken : List Code} {held : Option Code} → MadeOf p taken held → AfterHeld before taken → noHalfCommand (taken ++ codes) ≡ true → Next held codes → Alike ps (toCome held codes) → Alike (p ∷ ps) (toCome before (taken ++ codes))
-  by-made none padding after whole next go = padding-first ps (eachAlone codes) go
-  by-made (some d) padding after whole next go = absurd (omega (arith, ap length after))
+  by-made none nothing-to-send after whole next go = padding-first ps (eachAlone codes) go
+  by-made (some d) nothing-to-send after whole next go = absurd (omega (arith, ap length after))
   by-made none (space-before c needs) after whole next go =
       subst (Alike (spaceAlone ∷ ps)) (sym (space-out c needs next)) (same-first spaceAlone ps (toCome (some c) codes) go)
   by-made (some d) (space-before c needs) after whole next go = absurd (omega (arith, ap length after))
@@ -315,10 +313,10 @@ two-runs-show-the-same calls calls′ sent sent′ arrived arrived′ run run′
 
 -- H and i, each sent once it is pushed, and both pushed first: the pairs differ, and so do the events
 abbrev letter-H : Code
-letter-H = code.Letter (letterAt 0x28)
+letter-H = single 0x48
 
 abbrev letter-i : Code
-letter-i = code.Letter (letterAt 0x49)
+letter-i = single 0x69
 
 abbrev oneAtATime : List Call
 oneAtATime =
@@ -361,7 +359,7 @@ row-13-underlined = record { row = 13; underline = true; ty = style.Color White 
 -- first go out as one command, a preamble
 abbrev halfSentFirst : List Call
 halfSentFirst =
-    pushing (code.Unknown 0x14) ∷ sending ∷ sending ∷ pushing (code.Letter (letterAt 0x21)) ∷ sending ∷ []
+    pushing (code.Unknown 0x14) ∷ sending ∷ sending ∷ pushing (single 0x41) ∷ sending ∷ []
 
 pub half-a-command-apart : (sentBy halfSentFirst freshSender ≡ pair 0x94 0x80 ∷ pair 0x94 0x80 ∷ pair 0xC1 0x80 ∷ []) × (acceptedIn halfSentFirst ≡ acceptedIn halfACommand) × (noHalfCommand (acceptedIn halfACommand) ≡ false)
 unfolding ones onesIn writeCode inDomain queueable admit pairOf codeOf pop pushRing popRing ring.wellFormed wellFormed pushSender send sendSender

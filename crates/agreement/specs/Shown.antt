@@ -6,7 +6,6 @@ use mathlib.Core.Bool.{Bool, true, false, cond, _&&_, not}
 use mathlib.Core.List.{List, [], _∷_, _++_}
 use mathlib.Core.Path.{_≡_}
 use Rattle.code.specs.Code.{needsBackspace}
-use Rattle.code.specs.Pair.{pair}
 use Rattle.code.specs.declared.channel.Channel.{Channel}
 use Rattle.code.specs.declared.character.Character.{Character}
 use Rattle.code.specs.declared.character.Character.the-variants as character
@@ -32,36 +31,36 @@ oneCharacter marked ch (character.Point c) =
     event.Text (record { «needs_backspace» = marked; char1 = character.Point c; char2 = character.Absent; channel = ch }) ∷ []
 
 -- the characters of a text: the mark, that a character takes the place of the one before it, is the first one's
-abbrev pub characters : Bool → Channel → Character → Character → List Cea608
-characters marked ch character.Absent second = oneCharacter marked ch second
-characters marked ch (character.Point c) second = oneCharacter marked ch (character.Point c) ++ oneCharacter false ch second
+abbrev pub charactersOf : Bool → Channel → Character → Character → List Cea608
+charactersOf marked ch character.Absent second = oneCharacter marked ch second
+charactersOf marked ch (character.Point c) second = oneCharacter marked ch (character.Point c) ++ oneCharacter false ch second
 
 -- an event with its characters one by one: any other than text is itself
-abbrev pub oneByOne : Cea608 → List Cea608
-oneByOne (event.Text t) = characters (t .«needs_backspace») (t .channel) (t .char1) (t .char2)
-oneByOne (event.NewMode ch m) = event.NewMode ch m ∷ []
-oneByOne (event.EraseDisplay ch) = event.EraseDisplay ch ∷ []
-oneByOne (event.EraseNonDisplay ch) = event.EraseNonDisplay ch ∷ []
-oneByOne (event.CarriageReturn ch) = event.CarriageReturn ch ∷ []
-oneByOne (event.Backspace ch) = event.Backspace ch ∷ []
-oneByOne (event.EndOfCaption ch) = event.EndOfCaption ch ∷ []
-oneByOne (event.TabOffset ch n) = event.TabOffset ch n ∷ []
-oneByOne (event.DeleteToEndOfRow ch) = event.DeleteToEndOfRow ch ∷ []
-oneByOne (event.Preamble ch p) = event.Preamble ch p ∷ []
-oneByOne (event.MidRowChange ch m) = event.MidRowChange ch m ∷ []
+abbrev pub byCharacter : Cea608 → List Cea608
+byCharacter (event.Text t) = charactersOf (t .«needs_backspace») (t .channel) (t .char1) (t .char2)
+byCharacter (event.NewMode ch m) = event.NewMode ch m ∷ []
+byCharacter (event.EraseDisplay ch) = event.EraseDisplay ch ∷ []
+byCharacter (event.EraseNonDisplay ch) = event.EraseNonDisplay ch ∷ []
+byCharacter (event.CarriageReturn ch) = event.CarriageReturn ch ∷ []
+byCharacter (event.Backspace ch) = event.Backspace ch ∷ []
+byCharacter (event.EndOfCaption ch) = event.EndOfCaption ch ∷ []
+byCharacter (event.TabOffset ch n) = event.TabOffset ch n ∷ []
+byCharacter (event.DeleteToEndOfRow ch) = event.DeleteToEndOfRow ch ∷ []
+byCharacter (event.Preamble ch p) = event.Preamble ch p ∷ []
+byCharacter (event.MidRowChange ch m) = event.MidRowChange ch m ∷ []
 
 -- what events show: their characters one by one, and what is no text, in order
 abbrev pub shown : List Cea608 → List Cea608
 shown [] = []
-shown (e ∷ es) = oneByOne e ++ shown es
+shown (e ∷ es) = byCharacter e ++ shown es
 
 -- a code that is sent alone: the pair that it is written as and, where it needs a backspace, a space before it
-abbrev pub alone : Code → List Pair
-alone c = cond (needsBackspace c) (spaceAlone ∷ pairOf c ∷ []) (pairOf c ∷ [])
+abbrev pub sentAlone : Code → List Pair
+sentAlone c = cond (needsBackspace c) (spaceAlone ∷ pairOf c ∷ []) (pairOf c ∷ [])
 
 abbrev pub eachAlone : List Code → List Pair
 eachAlone [] = []
-eachAlone (c ∷ cs) = alone c ++ eachAlone cs
+eachAlone (c ∷ cs) = sentAlone c ++ eachAlone cs
 
 -- the codes that a run let in, in order
 abbrev pub acceptedIn : List Call → List Code

@@ -34,7 +34,7 @@ use Rattle.queue.specs.Good.{Fit}
 use Rattle.queue.specs.Queue.{Queued, admit, empty, inside, isNul, isSingle, mayWait, pairOf, pop, queued, pairWritten}
 use Rattle.queue.specs.Queueable.{isAnswer, isQueueable, queueable}
 use Rattle.queue.specs.Ring.{allMayWait}
-use Rattle.queue.specs.Made.{IsByte, MadeOf, command-alone, last-single, padding, single-before, space-before, two-singles, hasTwoByteCode, isHalfCommand, makesCommand, readsCommand}
+use Rattle.queue.specs.Made.{IsByte, MadeOf, command-alone, last-single, nothing-to-send, single-before, space-before, two-singles, hasTwoByteCode, isHalfCommand, makesCommand, readsCommand}
 
 -- a code that may be queued goes out with a first byte of 10 to 1F exactly where it is one that is sent as a command
 says : (c : Code) (o : Outcome (Pair × ℕ)) → writeCode c ≡ o → isAnswer (settled o) ≡ true → isCommandPair (pairWritten o) ≡ isCommandCode c
@@ -87,7 +87,7 @@ byte-is-single x a written =
     ap (λ (n : ℕ). not (eqb n 1) || false) (sym (written-is-sent x (pair a 0x80) 1 written .1))
 
 by-made : {p : Pair} {l : List Code} {h : Option Code} → MadeOf p l h → FirstQueueable l → isCommandPair p ≡ makesCommand l
-by-made padding first = refl
+by-made nothing-to-send first = refl
 by-made (space-before c needs) first = refl
 by-made (last-single x a written) first = written-says-command x (pair a 0x80) 1 written ∙ first-makes x [] first refl
 by-made (single-before x c a written two) first = written-says-command x (pair a 0x80) 1 written ∙ first-makes x [] first refl

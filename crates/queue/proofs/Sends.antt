@@ -20,7 +20,7 @@ use Rattle.code.specs.declared.code.Code.the-variants as code
 use Rattle.code.specs.declared.pair.Pair.{Pair}
 use Rattle.queue.proofs.Pairs.{code-goes-out-as-written, may-queueable}
 use Rattle.queue.specs.Good.{Fit}
-use Rattle.queue.specs.Made.{AfterHeld, IsByte, MadeOf, command-alone, last-single, padding, single-before, space-before, two-singles, hasBackspace}
+use Rattle.queue.specs.Made.{AfterHeld, IsByte, MadeOf, command-alone, last-single, nothing-to-send, single-before, space-before, two-singles, hasBackspace}
 use Rattle.queue.specs.Queue.{Pop, Queued, byteOf, isSingle, mayWait, pairOf, pairWritten, pop, popCommand, popHeld, popSingle, popTwo, popWaiting, queued}
 use Rattle.queue.specs.Queueable.{isQueueable}
 use Rattle.queue.specs.Ring.{allMayWait}
@@ -75,7 +75,7 @@ held-made : (h : Option Code) (l : List Code) → Fit (queued l h) → IsMade (p
 held-made (some c) l f =
     command-alone c (pairOf c)
     (command-as-pair c (both-right (eqb (byteLen c) 2) (isQueueable c) (f .held)) (both-left (eqb (byteLen c) 2) (isQueueable c) (f .held)))
-held-made none [] f = padding
+held-made none [] f = nothing-to-send
 held-made none (x ∷ rest) f = waiting-made x rest (isSingle x) refl (f .codes)
 
 pub made-of : (v : Queued) → Fit v → MadeOf (pop v .pair) (pop v .took) (pop v .next .held)

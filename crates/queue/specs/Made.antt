@@ -24,7 +24,7 @@ IsByte x a = writeCode x ≡ answer (pair a 0x80, 1)
 -- last single code with 0x80; a single code before the command now held, with 0x80, or with 0x20 where that needs a
 -- backspace; two single codes in their order; a command by itself
 pub data MadeOf : Pair → List Code → Option Code → Type 0 where
-  padding : MadeOf (pair 0x80 0x80) [] none
+  nothing-to-send : MadeOf (pair 0x80 0x80) [] none
   space-before : (c : Code) → needsBackspace c ≡ true → MadeOf (pair 0x20 0x80) [] (some c)
   last-single : (x : Code) (a : ℕ) → IsByte x a → MadeOf (pair a 0x80) (x ∷ []) none
   single-before : (x c : Code) (a : ℕ) → IsByte x a → byteLen c ≡ 2 → MadeOf (pair a (cond (needsBackspace c) 0x20 0x80)) (x ∷ []) (some c)
