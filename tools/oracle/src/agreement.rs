@@ -10,12 +10,13 @@ use crate::any_code::any_code;
 use crate::line::{carry, Arrived, Hits, Pair};
 use crate::names::{COMMANDS, LETTERS};
 use crate::padding::{noticed_places, Changed, Padding};
-use crate::queue::{self, is_command, plain};
+use crate::queue::{self, is_command, is_half_command, plain};
 use crate::random::{Random, SEED};
 use crate::receiver::{heard, Heard, Receiver, HI, PADDING};
 use crate::rounds::Beside;
 use crate::sender::{is_odd, Asked, Sent};
 use crate::sender_sets::any_drain;
+use crate::shown::{each_alone, shown};
 use crate::transcript::Transcript;
 use cea608_types::tables::{Channel, Code, Field};
 use cea608_types::{Cea608, Cea608State, Mode, Text};
@@ -72,6 +73,8 @@ struct Met {
     arrived: usize,
     drained: usize,
     noticed: usize,
+    shown: usize,
+    packed_otherwise: usize,
     hits: Hits,
     before_sending: Changed,
     as_received: Changed,
@@ -87,6 +90,7 @@ impl Met {
         assert!(anywhere.put_in > 1000 && anywhere.taken_out > 1000);
         assert!(self.drained > 1000, "too few pairs drained");
         assert!(self.noticed > 100, "padding was hardly ever noticed");
+        assert!(self.shown > 500 && self.packed_otherwise > 500);
     }
 }
 
@@ -103,14 +107,16 @@ pub fn sessions(to: &mut Transcript, random: &mut Random) {
     }
     met.reached_everything();
     print!(
-        "{} pairs received in {} sessions, {} drained, {} corrupted, padding put in {} and {} times, noticed {} times: ",
+        "{} pairs received in {} sessions, {} drained, {} corrupted, padding put in {} and {} times, noticed {} times, shown as by codes sent alone {} times, {} of them in other pairs: ",
         met.arrived,
         met.sessions,
         met.drained,
         met.hits.corrupted,
         met.before_sending.put_in,
         met.as_received.put_in,
-        met.noticed
+        met.noticed,
+        met.shown,
+        met.packed_otherwise
     );
 }
 
@@ -132,7 +138,9 @@ fn session(to: &mut Transcript, random: &mut Random, bursts: u32, way: Way, met:
             padded
         }
     };
-    check(&spoken, &arrived, &hear(to, &arrived));
+    let story = hear(to, &arrived);
+    check(&spoken, &arrived, &story);
+    check_shown(&spoken, &story.told, met);
     met.sessions += 1;
     met.arrived += arrived.len();
 }
@@ -266,7 +274,7 @@ fn speak(to: &mut Transcript, random: &mut Random, bursts: u32, met: &mut Met) -
 struct Told {
     events: Vec<Cea608>,
     field: Option<Field>,
-    text_behind: Heard,
+    text_after: Heard,
 }
 
 /// A receiver's story, and for each pair whether it was refused.
@@ -285,7 +293,7 @@ fn hear(to: &mut Transcript, arrived: &[Arrived]) -> Story {
         told: Told {
             events: events(&heard),
             field: receiver.field(),
-            text_behind: receiver.decode(HI),
+            text_after: receiver.decode(HI),
         },
         refused: heard
             .iter()
@@ -314,7 +322,7 @@ fn read_once(pairs: &[Pair]) -> Told {
     Told {
         events: events(&all),
         field: state.last_received_field(),
-        text_behind: heard(&mut state, HI),
+        text_after: heard(&mut state, HI),
     }
 }
 
@@ -331,6 +339,20 @@ fn check(spoken: &Spoken, arrived: &[Arrived], story: &Story) {
          heard: {:?}\n  queued: {once:?}\n  refused: {:?}\n  corrupted: {corrupted:?}",
         spoken.sent, story.told, story.refused
     );
+}
+
+/// What is shown depends on the accepted codes alone: it is what each of them shows when it is sent alone.
+/// Half a command is the exception.
+fn check_shown(spoken: &Spoken, told: &Told, met: &mut Met) {
+    if spoken.accepted.iter().any(|&code| is_half_command(code)) {
+        return;
+    }
+    let alone = read_once(&each_alone(&spoken.accepted));
+    assert_eq!(shown(&told.events), shown(&alone.events));
+    assert_eq!(told.field, alone.field);
+    assert_eq!(told.text_after, alone.text_after);
+    met.shown += 1;
+    met.packed_otherwise += usize::from(told.events != alone.events);
 }
 
 /// A line that does what demand 3 does not allow, and the events with it and without.

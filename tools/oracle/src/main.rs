@@ -32,6 +32,7 @@ mod rounds;
 mod sample;
 mod sender;
 mod sender_sets;
+mod shown;
 mod streams;
 mod transcript;
 mod tried_by_hand;

@@ -81,7 +81,7 @@ fn kind_of(taken: &[Code]) -> Made {
 }
 
 /// A one-byte `Unknown` of 0x10 to 0x1F.
-fn is_half_command(code: Code) -> bool {
+pub fn is_half_command(code: Code) -> bool {
     matches!(code, Code::Unknown(byte) if is_first_of_command(byte))
 }
 

@@ -76,12 +76,12 @@ fn every_pair() -> Vec<Stream> {
         on_one().chain(falling()).flatten().collect(),
         rising().flat_map(|pair| [pair; 2]).flatten().collect(),
         rising().flat_map(|pair| [pair; 3]).flatten().collect(),
-        each_behind(ON_CHANNEL_ONE),
-        each_behind(ON_CHANNEL_TWO),
+        each_after(ON_CHANNEL_ONE),
+        each_after(ON_CHANNEL_TWO),
     ]
 }
 
-fn each_behind(command: Pair) -> Stream {
+fn each_after(command: Pair) -> Stream {
     (0..=u16::MAX)
         .flat_map(|pair| [command, pair.to_be_bytes()])
         .flatten()
