@@ -7,6 +7,7 @@ pub mod First
 pub mod Increasing
 pub mod Keys
 pub mod KindByKind
+pub mod KnownCodes
 pub mod Lengths
 pub mod LentPart
 pub mod Lookup

@@ -10,11 +10,11 @@ use lib.Dec.{leb}
 use Rattle.code.proofs.Both.{both-true}
 use Rattle.code.proofs.Agree.{agree, agree-grid}
 use Rattle.code.proofs.OneAnswer.{clash}
-use Rattle.code.specs.Outcome.{Outcome, answer, refused}
+use Rattle.code.specs.Outcome.{Outcome, answer, isAnswer, refused}
 use Rattle.code.specs.Parity.{isOdd, stripped, withParity}
 use Rattle.code.specs.Read.{codesOfBytes, controlCodeOf, isCommand, meaning, readPair, single}
 use Rattle.code.specs.Pair.{pair}
-use Rattle.code.specs.RoundTrip.{count, countPairs, isRead, writtenAgain}
+use Rattle.code.specs.RoundTrip.{countBelow, countPairs, writtenAgain}
 use Rattle.code.specs.Write.{asCommand, asSingle, controlBytes, onLine, preambleBytes, together, writeCode, writeTwo}
 use Rattle.code.specs.declared.channel.Channel.{Channel}
 use Rattle.code.specs.declared.code.Code.{Code}
@@ -105,7 +105,7 @@ unfolding ones onesIn
 odd-pairs = refl
 
 -- of two tests that agree the counts are the same
-count-same : (f g : ℕ → Bool) (n : ℕ) → ((k : ℕ) → f k ≡ g k) → count f n ≡ count g n
+count-same : (f g : ℕ → Bool) (n : ℕ) → ((k : ℕ) → f k ≡ g k) → countBelow f n ≡ countBelow g n
 count-same f g zero same = refl
 count-same f g (suc n) same = rw (same n, count-same f g n same) refl
 
@@ -114,13 +114,13 @@ pairs-same f g zero m same = refl
 pairs-same f g (suc n) m same = rw (count-same (f n) (g n) m (same n), pairs-same f g n m same) refl
 
 -- so many pairs are read
-read-by : (t : Bool) (codes : Code × Code) → isRead (cond t (answer codes) (refused 1)) ≡ t
+read-by : (t : Bool) (codes : Code × Code) → isAnswer (cond t (answer codes) (refused 1)) ≡ t
 read-by true codes = refl
 read-by false codes = refl
 
-read-where-odd : (a b : ℕ) → isRead (readPair a b) ≡ passes a b
+read-where-odd : (a b : ℕ) → isAnswer (readPair a b) ≡ passes a b
 unfolding readPair
 read-where-odd a b = read-by (passes a b) (codesOfBytes (stripped a) (stripped b))
 
-pub pairs-that-are-read : countPairs (λ (a b : ℕ). isRead (readPair a b)) 256 256 ≡ 16384
-pairs-that-are-read = pairs-same (λ (a b : ℕ). isRead (readPair a b)) passes 256 256 read-where-odd ∙ odd-pairs
+pub pairs-that-are-read : countPairs (λ (a b : ℕ). isAnswer (readPair a b)) 256 256 ≡ 16384
+pairs-that-are-read = pairs-same (λ (a b : ℕ). isAnswer (readPair a b)) passes 256 256 read-where-odd ∙ odd-pairs

@@ -18,3 +18,4 @@ pub mod Write
 pub mod Code
 pub mod ReadBack
 pub mod RoundTrip
+pub mod KnownCodes

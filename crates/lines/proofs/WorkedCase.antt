@@ -1,4 +1,5 @@
--- 01's worked case of the listing, and a case with the other kinds of line, which antt computes from the definition.
+-- 01's worked case of the listing, a case with the other kinds of line, and the limit of pairs, which antt computes from the
+-- definition.
 -- Assumes nothing.
 use mathlib.Core.List.{List, [], _∷_, _++_}
 use mathlib.Core.Path.{_≡_, refl}
@@ -6,8 +7,8 @@ use Prim.Native.Nat.{ℕ}
 use lib.Count.{ones, onesIn}
 use Rattle.code.specs.Characters.{points, standard, symbols}
 use Rattle.code.specs.Read.{controlCodeOf, meaning, readPair}
-use Rattle.lines.specs.Listing.{listing}
-use Rattle.receiver.specs.Receiver.{step}
+use Rattle.lines.specs.Listing.{listFrom, listing}
+use Rattle.receiver.specs.Receiver.{fresh, step}
 use Rattle.receiver.specs.Heard.{eventOf, textEvent}
 use Rattle.event.specs.Mode.{modeOf}
 use Rattle.code.specs.Code.{charOf}
@@ -49,3 +50,8 @@ other-lines =
 pub the-other-kinds : listing other-kinds ≡ other-lines
 unfolding listing decimal ones onesIn standard symbols readPair step eventOf textEvent modeOf charOf meaning controlCodeOf
 the-other-kinds = refl
+
+-- one pair before the limit a pair is read, and half a pair after it is refused 10
+pub at-the-limit : listFrom fresh 16777215 0 (0x80 ∷ 0x80 ∷ 0x80 ∷ []) ≡ ended (points "16777216 refused 10" ∷ points "pairs 16777216 refused 1" ∷ [])
+unfolding decimal ones onesIn standard symbols readPair step eventOf textEvent modeOf charOf meaning controlCodeOf
+at-the-limit = refl

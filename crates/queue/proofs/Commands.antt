@@ -14,7 +14,7 @@ use Rattle.code.proofs.CommandCodes.{written-says-command}
 use Rattle.code.proofs.Written.{domain-is-written, settled, written-is-sent}
 use Rattle.code.specs.Channel.{channelOne}
 use Rattle.code.specs.Code.{byteLen}
-use Rattle.code.specs.Outcome.{Outcome, answer, refused}
+use Rattle.code.specs.Outcome.{Outcome, answer, isAnswer, refused}
 use Rattle.code.specs.Read.{controlCodeOf, isCommandPair, meaning, readPair, single}
 use Rattle.code.specs.Pair.{pair}
 use Rattle.code.specs.Write.{inDomain, isCommandCode, isCommandControl, writeCode}
@@ -32,7 +32,7 @@ use Rattle.queue.proofs.Sends.{made-of}
 use Rattle.queue.specs.Calls.{Reply, listReplies, popping, pushing, toPop, toPush}
 use Rattle.queue.specs.Good.{Fit}
 use Rattle.queue.specs.Queue.{Queued, admit, empty, inside, isNul, isSingle, mayWait, pairOf, pop, queued, pairWritten}
-use Rattle.queue.specs.Queueable.{isAnswer, isQueueable, queueable}
+use Rattle.queue.specs.Queueable.{isQueueable, queueable}
 use Rattle.queue.specs.Ring.{allMayWait}
 use Rattle.queue.specs.Made.{IsByte, MadeOf, command-alone, last-single, nothing-to-send, single-before, space-before, two-singles, hasTwoByteCode, isHalfCommand, makesCommand, readsCommand}
 

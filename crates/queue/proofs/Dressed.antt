@@ -12,7 +12,7 @@ use lib.ListN.{replicate}
 use Rattle.code.proofs.Both.{both-left, both-right}
 use Rattle.code.specs.Channel.{channelOne, channelTwo}
 use Rattle.code.specs.Code.{byteLen}
-use Rattle.code.specs.Outcome.{Outcome, answer, refused}
+use Rattle.code.specs.Outcome.{Outcome, answer, isAnswer, refused}
 use Rattle.code.specs.Read.{single}
 use Rattle.code.specs.Pair.{pair}
 use Rattle.code.specs.Write.{controlBytes, inDomain, isCommandCode, isCommandControl, onLine, writeCode}
@@ -25,7 +25,7 @@ use Rattle.code.specs.declared.control.Control.the-variants as control
 use Rattle.queue.proofs.WellFormed.{formed}
 use Rattle.queue.specs.Calls.{Reply, listReplies, popping, pushing, toPop, toPush}
 use Rattle.queue.specs.Queue.{admit, empty, heldCodes, inside, isNul, mayWait, pairOf, pop}
-use Rattle.queue.specs.Queueable.{isAnswer, isDressed, isDressedControl, isQueueable, noneDressed, queueable, unlessDressed}
+use Rattle.queue.specs.Queueable.{isDressed, isDressedControl, isQueueable, noneDressed, queueable, unlessDressed}
 use Rattle.queue.specs.Ring.{allMayWait, heldFits, heldIn, pushRing, view, waitingIn, wellFormed}
 use Rattle.queue.specs.declared.ring.Queue.{Queue}
 

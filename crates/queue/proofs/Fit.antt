@@ -11,13 +11,13 @@ use lib.Dec.{lit≤}
 use lib.ListN.{length, length-append}
 use Rattle.code.proofs.Lengths.{not-one-is-two}
 use Rattle.code.specs.Code.{needsBackspace}
-use Rattle.code.specs.Outcome.{Outcome, answer, refused}
+use Rattle.code.specs.Outcome.{Outcome, answer, isAnswer, refused}
 use Rattle.code.specs.declared.code.Code.{Code}
 use Rattle.code.proofs.Both.{both-left, both-right}
 use Rattle.queue.proofs.WellFormed.{one-held, stored-has-room}
 use Rattle.queue.specs.Good.{Fit}
 use Rattle.queue.specs.Queue.{Queued, queued, admit, admitBy, count, empty, entered, isFull, isNul, isSingle, mayBeHeld, mayWait, pop, popCommand, popHeld, popSingle, popTwo, popWaiting, push}
-use Rattle.queue.specs.Queueable.{isAnswer, isQueueable, queueable}
+use Rattle.queue.specs.Queueable.{isQueueable, queueable}
 use Rattle.queue.specs.Ring.{allMayWait}
 
 pub empty-fits : Fit empty

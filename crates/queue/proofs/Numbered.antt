@@ -17,7 +17,7 @@ use Rattle.code.specs.Channel.{channelOne, channelTwo, fieldOne, fieldTwo}
 use Rattle.code.specs.Code.{controlNeedsBackspace, needsBackspace}
 use Rattle.code.specs.Control.{commandNumber, tabNumber}
 use Rattle.code.specs.Letter.{letterAt, letterPlace}
-use Rattle.code.specs.Outcome.{Outcome, answer, refused}
+use Rattle.code.specs.Outcome.{Outcome, answer, isAnswer, refused}
 use Rattle.code.specs.Parity.{withParity}
 use Rattle.code.specs.Read.{isCommand, meaning, orUnknown}
 use Rattle.code.specs.Pair.{pair}
@@ -35,7 +35,7 @@ use Rattle.code.specs.declared.pair.Pair.{Pair}
 use Rattle.code.specs.declared.preamble.PreambleAddressCode.{PreambleAddressCode}
 use Rattle.queue.specs.Number.{bytesNumber, channelOfNumber, channelNumber, codeOf, controlNumber, controlOf, fieldOfNumber, fieldNumber, firstIn, numberIn, numberOf, secondIn, singleOf}
 use Rattle.queue.specs.Queue.{isSingle, mayWait, pairOf, pairWritten}
-use Rattle.queue.specs.Queueable.{isAnswer, isDressedControl, queueable, unlessDressed}
+use Rattle.queue.specs.Queueable.{isDressedControl, queueable, unlessDressed}
 
 -- a number of a single code, and of a command
 pub as-single : (n : ℕ) → 0x8000 ≤ n → codeOf n ≡ singleOf (n / 128 % 2) (secondIn n)

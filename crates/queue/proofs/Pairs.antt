@@ -12,7 +12,7 @@ use lib.Dec.{eqb, lit<}
 use Rattle.code.proofs.Lengths.{text-has-one-byte}
 use Rattle.code.proofs.Written.{SentByte, SentPair, domain-is-written, nul-sent, read-as-command, read-as-text, settled, written-is-sent}
 use Rattle.code.specs.Code.{byteLen, needsBackspace}
-use Rattle.code.specs.Outcome.{Outcome, answer, refused}
+use Rattle.code.specs.Outcome.{Outcome, answer, isAnswer, refused}
 use Rattle.code.specs.Parity.{stripped}
 use Rattle.code.specs.Read.{isCommand, readPair}
 use Rattle.code.specs.Pair.{pair}
@@ -23,7 +23,7 @@ use Rattle.code.proofs.Both.{both-left, both-right}
 use Rattle.queue.proofs.Dressed.{queueable-is-in-domain}
 use Rattle.queue.specs.Good.{Fit}
 use Rattle.queue.specs.Queue.{Queued, isNul, isSingle, mayWait, pairOf, pop, popCommand, popHeld, popSingle, popTwo, popWaiting, queued, pairWritten}
-use Rattle.queue.specs.Queueable.{isAnswer, isQueueable}
+use Rattle.queue.specs.Queueable.{isQueueable}
 use Rattle.queue.specs.Ring.{allMayWait}
 use Rattle.queue.specs.Made.{readsCommand}
 

@@ -11,13 +11,13 @@ use lib.Dec.{eqb, leb, lit≤, ltb}
 use lib.ListN.{length}
 use Rattle.code.proofs.Both.{both-left, both-right}
 use Rattle.code.specs.Code.{byteLen}
-use Rattle.code.specs.Outcome.{Outcome, answer, refused}
+use Rattle.code.specs.Outcome.{Outcome, answer, isAnswer, refused}
 use Rattle.code.specs.declared.code.Code.{Code}
 use Rattle.code.specs.declared.code.Code.the-variants as code
 use Rattle.queue.proofs.Numbered.{every-number-may-wait, length-told}
 use Rattle.queue.specs.Number.{codeOf}
 use Rattle.queue.specs.Queue.{admit, admitBy, heldCodes, isFull, isNul, isSingle, mayBeHeld, mayWait}
-use Rattle.queue.specs.Queueable.{isAnswer, isQueueable, queueable}
+use Rattle.queue.specs.Queueable.{isQueueable, queueable}
 use Rattle.queue.specs.Ring.{allMayWait, codesFrom, formedBy, heldFits, heldIn, numberAt, waitingIn, wellFormed}
 use Rattle.queue.specs.declared.ring.Queue.{Queue}
 

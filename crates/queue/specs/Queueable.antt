@@ -2,7 +2,7 @@
 -- refusal 18. Pushing, waiting, being held, and so 12, all rest on it.
 use mathlib.Core.Bool.{Bool, true, false, cond, _&&_, not}
 use mathlib.Core.List.{List, [], _∷_}
-use Rattle.code.specs.Outcome.{Outcome, answer, refused}
+use Rattle.code.specs.Outcome.{Outcome, answer, isAnswer, refused}
 use Rattle.code.specs.Read.{isCommand}
 use Rattle.code.specs.Write.{inDomain}
 use Rattle.code.specs.declared.code.Code.{Code}
@@ -37,10 +37,6 @@ unlessDressed dressed (refused n) = refused n
 -- 2 or 3, then 18
 unfoldable pub queueable : Code → Outcome Unit
 queueable c = unlessDressed (isDressed c) (inDomain c)
-
-abbrev pub isAnswer : Outcome Unit → Bool
-isAnswer (answer u) = true
-isAnswer (refused n) = false
 
 abbrev pub isQueueable : Code → Bool
 isQueueable c = isAnswer (queueable c)

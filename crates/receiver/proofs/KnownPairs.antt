@@ -12,13 +12,13 @@ use Rattle.code.specs.Outcome.{answer}
 use Rattle.code.specs.Pair.{pair}
 use Rattle.code.specs.Read.{controlCodeOf, meaning, readPair}
 use Rattle.code.specs.declared.character.Character.the-variants.{Point}
-use Rattle.code.specs.declared.pair.Pair.{Pair}
+use Rattle.code.specs.declared.code.Code.the-variants as code
 use Rattle.event.specs.KnownPairs.{Known, knownPairs}
 use Rattle.event.specs.Mode.{modeOf}
 use Rattle.event.specs.declared.event.Cea608.the-variants as event
 use Rattle.event.specs.declared.mode.Mode.the-variants.{PopOn}
 use Rattle.receiver.specs.Heard.{eventOf, textEvent}
-use Rattle.receiver.specs.KnownPairs.{Leaves, knownToLeave, onChannelOne, silentPairs}
+use Rattle.receiver.specs.KnownPairs.{Leaves, Silent, knownToLeave, onChannelOne, silentPairs}
 use Rattle.receiver.specs.Reading.{after, answers}
 use Rattle.receiver.specs.Receiver.{fresh, lastField, step}
 use Rattle.receiver.specs.declared.state.LastChannel.the-variants as channel
@@ -28,9 +28,13 @@ pub decoded-as-known : map (λ (k : Known). step onChannelOne (k .pair) .0) know
 unfolding ones onesIn standard symbols charOf meaning controlCodeOf readPair modeOf eventOf textEvent step
 decoded-as-known = refl
 
-pub silent-as-known : map (λ (p : Pair). step onChannelOne p .0) silentPairs ≡ map (λ (p : Pair). answer none) silentPairs
+pub silent-as-known : map (λ (k : Silent). step onChannelOne (k .pair) .0) silentPairs ≡ map (λ (k : Silent). answer none) silentPairs
 unfolding ones onesIn standard symbols charOf meaning controlCodeOf readPair modeOf eventOf textEvent step
 silent-as-known = refl
+
+pub silent-read-as-known : map (λ (k : Silent). readPair (k .pair .0) (k .pair .1)) silentPairs ≡ map (λ (k : Silent). answer (code.Control (k .code), code.Nul)) silentPairs
+unfolding ones onesIn meaning controlCodeOf readPair
+silent-read-as-known = refl
 
 pub channel-left-as-known : map (λ (l : Leaves). after fresh (l .pairs) .«last_channel») knownToLeave ≡ map (λ (l : Leaves). channel.Known (l .channel)) knownToLeave
 unfolding ones onesIn standard symbols charOf meaning controlCodeOf readPair modeOf eventOf textEvent step

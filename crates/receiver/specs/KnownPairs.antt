@@ -1,12 +1,22 @@
 -- What else is known of pairs, beside those that `KnownPairs` of `event` has with their events: the commands and the symbol
 -- that have no event, the channel and the field that pairs leave, and the channel that text is for. From the tables of
 -- 47 CFR 79.101, and from 01.
+use Prim.Native.Nat.{ℕ}
 use mathlib.Core.List.{List, [], _∷_}
 use Rattle.code.specs.Channel.{channelOne, channelTwo, fieldOne, fieldTwo}
+use Rattle.code.specs.Column.{columnAt}
 use Rattle.code.specs.Pair.{pair}
 use Rattle.code.specs.declared.channel.Channel.{Channel}
 use Rattle.code.specs.declared.channel.Field.{Field}
+use Rattle.code.specs.declared.control.CodeField.{CodeField}
+use Rattle.code.specs.declared.control.CodeField.the-variants as field
+use Rattle.code.specs.declared.control.Command.{Command}
+use Rattle.code.specs.declared.control.Command.the-variants.{AlarmOff, AlarmOn, FlashOn, TextRestart, ResumeTextDisplay}
+use Rattle.code.specs.declared.control.Control.{Control}
+use Rattle.code.specs.declared.control.Control.the-variants as control
+use Rattle.code.specs.declared.control.ControlCode.{ControlCode}
 use Rattle.code.specs.declared.pair.Pair.{Pair}
+use Rattle.code.specs.declared.symbol.SymbolRow.the-variants.{Special}
 use Rattle.receiver.specs.Receiver.{state}
 use Rattle.receiver.specs.declared.state.Cea608State.{Cea608State}
 use Rattle.receiver.specs.declared.state.LastChannel.the-variants as channel
@@ -17,10 +27,23 @@ use Rattle.receiver.specs.declared.state.LastPair.the-variants as last
 abbrev pub onChannelOne : Cea608State
 onChannelOne = state last.Absent (channel.Known channelOne) last-field.Absent
 
--- alarm off and on, flash, text restart, resume text display, the transparent space
-abbrev pub silentPairs : List Pair
+-- pairs that have no event, each with its control code
+pub record Silent : Type 0 where
+  pub pair : Pair
+  pub code : ControlCode
+
+abbrev silent : ℕ → ℕ → CodeField → Control → Silent
+silent a b f c = record { pair = pair a b; code = record { field = f; channel = channelOne; control = c } }
+
+abbrev silentCommand : ℕ → Command → Silent
+silentCommand b c = silent 0x94 b (field.Of fieldOne) (control.Command c)
+
+-- alarm off and on, flash, text restart, resume text display; the transparent space, at 39 of the special characters
+abbrev pub silentPairs : List Silent
 silentPairs =
-    pair 0x94 0xA2 ∷ pair 0x94 0x23 ∷ pair 0x94 0xA8 ∷ pair 0x94 0x2A ∷ pair 0x94 0xAB ∷ pair 0x91 0xB9 ∷ []
+    silentCommand 0xA2 AlarmOff ∷ silentCommand 0x23 AlarmOn ∷ silentCommand 0xA8 FlashOn ∷ silentCommand 0x2A TextRestart
+    ∷ silentCommand 0xAB ResumeTextDisplay
+    ∷ silent 0x91 0xB9 field.Absent (control.Symbol (record { row = Special; column = columnAt 9 })) ∷ []
 
 -- pairs, and the channel and the field that a fresh receiver has after them
 pub record Leaves : Type 0 where

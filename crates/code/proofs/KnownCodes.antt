@@ -1,0 +1,69 @@
+-- The standard characters against ASCII, the indents by their columns, channels and fields by their numbers, and the
+-- refusal of each call by its number in 01.
+-- Assumes nothing.
+use mathlib.Core.Bool.{false, cond}
+use mathlib.Core.List.{map}
+use mathlib.Core.Option.{Option, none, some}
+use mathlib.Core.Path.{_≡_, refl, ap, sym, _∙_}
+use Prim.Native.Nat.{ℕ, _≤_, _<_}
+use lib.Count.{ones, onesIn}
+use native.Mathlib.Omega.{arith}
+use Rattle.code.proofs.Agree.{agree-from}
+use Rattle.code.specs.Channel.{channelId, channelOne, channelTwo, fieldId, fieldOne, fieldTwo}
+use Rattle.code.specs.Characters.{standard, symbols}
+use Rattle.code.specs.Code.{charOf, fromChar}
+use Rattle.code.specs.Control.{tabOffset}
+use Rattle.code.specs.KnownCodes.{Instead, columns, indents, isNotAscii, notAscii}
+use Rattle.code.specs.Outcome.{answer, refused}
+use Rattle.code.specs.Preamble.{fromIndent, indentIn, newPreamble}
+use Rattle.code.specs.Read.{readPair, single}
+use Rattle.code.specs.Write.{inDomain, writeCode}
+use Rattle.code.specs.declared.code.Code.the-variants as code
+use Rattle.code.specs.declared.color.Color.the-variants.{White}
+use Rattle.code.specs.declared.preamble.PreambleType.the-variants.{Color}
+
+-- at every other byte of 20 to 7F the character is the byte's own
+pub ascii-elsewhere : (b : ℕ) → 0x20 ≤ b → b < 0x80 → isNotAscii b ≡ false → charOf (single b) ≡ some b
+unfolding standard charOf
+ascii-elsewhere b from below other =
+    sym (ap (λ t. cond t none (charOf (single b))) other)
+    ∙ agree-from (λ (x : ℕ). cond (isNotAscii x) none (charOf (single x))) (λ (x : ℕ). cond (isNotAscii x) none (some x)) 0x20 0x60 refl b from
+    (omega (arith, below))
+    ∙ ap (λ t. cond t none (some b)) other
+
+pub instead-of-ascii : map (λ (x : Instead). charOf (single (x .byte))) notAscii ≡ map (λ (x : Instead). some (x .point)) notAscii
+unfolding standard charOf
+instead-of-ascii = refl
+
+pub indents-by-column : (map fromIndent columns ≡ map answer indents) × (map indentIn indents ≡ map some columns)
+indents-by-column = (refl, refl)
+
+pub channels-and-fields-by-number : (channelId channelOne ≡ 1) × (channelId channelTwo ≡ 2) × (fieldId fieldOne ≡ 1) × (fieldId fieldTwo ≡ 2)
+channels-and-fields-by-number = (refl, refl, refl, refl)
+
+-- 48 has an even count of ones
+pub refused-1 : readPair 0x48 0xE9 ≡ refused 1
+unfolding ones onesIn readPair
+refused-1 = refl
+
+-- a byte of 80 in an `Unknown`
+pub refused-2 : (writeCode (code.Unknown 0x80) ≡ refused 2) × (inDomain (code.Unknown 0x80) ≡ refused 2)
+unfolding writeCode inDomain
+refused-2 = (refl, refl)
+
+-- row 15
+pub refused-3 : newPreamble 15 false (Color White) ≡ refused 3
+refused-3 = refl
+
+-- a tab of no column, and one of four
+pub refused-4 : (tabOffset 0 ≡ refused 4) × (tabOffset 4 ≡ refused 4)
+refused-4 = (refl, refl)
+
+-- €
+pub refused-5 : fromChar 0x20AC channelOne ≡ refused 5
+unfolding fromChar standard symbols
+refused-5 = refl
+
+-- indents of 3 and of 32
+pub refused-8 : (fromIndent 3 ≡ refused 8) × (fromIndent 32 ≡ refused 8)
+refused-8 = (refl, refl)
