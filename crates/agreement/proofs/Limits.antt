@@ -26,7 +26,7 @@ use Rattle.event.specs.declared.event.Cea608.{Cea608}
 use Rattle.event.specs.declared.event.Cea608.the-variants as event
 use Rattle.event.specs.declared.mode.Mode.the-variants as mode
 use Rattle.queue.specs.Number.{codeOf}
-use Rattle.queue.specs.Queue.{admit, pairOf, pop}
+use Rattle.queue.specs.Queue.{admit, empty, pairOf, pop, queued}
 use Rattle.queue.specs.Queueable.{queueable}
 use Rattle.queue.specs.Ring.{popRing, pushRing}
 use Rattle.queue.specs.Ring as ring
@@ -71,8 +71,11 @@ pub what-is-sent : (sentBy programme freshSender ≡ line) × (queuePairs progra
 unfolding ones onesIn writeCode inDomain queueable admit pairOf codeOf pop pushRing popRing ring.wellFormed wellFormed pushSender send sendSender drainSender idleSender onLine controlBytes meaning
 what-is-sent = (refl, refl, refl, refl)
 
--- the codes of each pair
-pub what-it-is-made-of : packed programme freshSender ≡ record { pair = rollUp2; codes = command RollUp2 ∷ []; held = none } ∷ record { pair = carriageReturn; codes = command CarriageReturn ∷ []; held = none } ∷ record { pair = hi; codes = single 0x48 ∷ single 0x69 ∷ []; held = none } ∷ []
+abbrev hiCodes : List Code
+hiCodes = single 0x48 ∷ single 0x69 ∷ []
+
+-- the codes of each pair, and those that wait after it
+pub what-it-is-made-of : packed programme freshSender ≡ record { pair = rollUp2; codes = command RollUp2 ∷ []; left = queued (command CarriageReturn ∷ hiCodes) none } ∷ record { pair = carriageReturn; codes = command CarriageReturn ∷ []; left = queued hiCodes none } ∷ record { pair = hi; codes = hiCodes; left = empty } ∷ []
 unfolding ones onesIn writeCode inDomain queueable admit pairOf codeOf pop pushRing popRing ring.wellFormed wellFormed pushSender send sendSender drainSender idleSender onLine controlBytes meaning
 what-it-is-made-of = refl
 
@@ -136,7 +139,7 @@ abbrev pub halfACommand : List Call
 halfACommand =
     pushing (code.Unknown 0x14) ∷ pushing (single 0x41) ∷ sending ∷ sending ∷ []
 
-pub half-a-command-is-sent-twice : (packed halfACommand freshSender ≡ record { pair = pair 0x94 0xC1; codes = code.Unknown 0x14 ∷ single 0x41 ∷ []; held = none } ∷ []) × (sentBy halfACommand freshSender ≡ pair 0x94 0xC1 ∷ pair 0x94 0xC1 ∷ [])
+pub half-a-command-is-sent-twice : (packed halfACommand freshSender ≡ record { pair = pair 0x94 0xC1; codes = code.Unknown 0x14 ∷ single 0x41 ∷ []; left = empty } ∷ []) × (sentBy halfACommand freshSender ≡ pair 0x94 0xC1 ∷ pair 0x94 0xC1 ∷ [])
 unfolding ones onesIn writeCode inDomain queueable admit pairOf codeOf pop pushRing popRing ring.wellFormed wellFormed pushSender send sendSender
 half-a-command-is-sent-twice = (refl, refl)
 

@@ -42,28 +42,28 @@ pairs-by-parts : (ms ns : List Packed) → pairsIn (ms ++ ns) ≡ pairsIn ms ++ 
 pairs-by-parts [] ns = refl
 pairs-by-parts (m ∷ ms) ns = ap (λ (l : List Pair). m .pair ∷ l) (pairs-by-parts ms ns)
 
-pair-packed : (o : Outcome Pair) (taken : List Code) (held : Option Code) → pairsIn (packedOf o taken held) ≡ given o
-pair-packed (answer p) taken held = refl
-pair-packed (refused n) taken held = refl
+pair-packed : (o : Outcome Pair) (taken : List Code) (left : Queued) → pairsIn (packedOf o taken left) ≡ given o
+pair-packed (answer p) taken left = refl
+pair-packed (refused n) taken left = refl
 
 pair-of-send : (o : Owed) (q : Queue) → pairsIn (packedBy o q) ≡ fromQueue o q
 pair-of-send (owed.Repeat p) q = refl
-pair-of-send owed.Absent q = pair-packed (popRing q .0) (of-queue.takenBy q) (queue.view (popRing q .1) .held)
+pair-of-send owed.Absent q = pair-packed (popRing q .0) (of-queue.takenBy q) (queue.view (popRing q .1))
 
 pairs-are-the-queues : (calls : List Call) (s : Sender) → Good s → pairsIn (packed calls s) ≡ queuePairs calls s
 pairs-are-the-queues calls s g =
     part-in-calls packedPair queuePair pairsIn refl pairs-by-parts
     (λ (r : Sender) (good : Good r). pair-of-send (r .repeats .owed) (r .queue)) calls s g
 
--- a pop of a well-formed queue makes one pair, of what it takes and what it then holds
+-- a pop of a well-formed queue makes one pair, of what it takes and what it leaves
 abbrev packedPop : Queue → Packed
-packedPop q = let p = pop (queue.view q) in record { pair = p .pair; codes = p .took; held = p .next .held }
+packedPop q = let p = pop (queue.view q) in record { pair = p .pair; codes = p .took; left = p .next }
 
 one-packed : (q : Queue) → queue.wellFormed q ≡ true → packedBy owed.Absent q ≡ packedPop q ∷ []
 one-packed q formed =
-    ap₂ (λ (l : List Code) (o : Outcome Pair). packedOf o l (queue.view (popRing q .1) .held))
+    ap₂ (λ (l : List Code) (o : Outcome Pair). packedOf o l (queue.view (popRing q .1)))
     (ap (λ (t : Bool). cond t (pop (queue.view q) .took) []) formed) (pair-of-queue q formed)
-    ∙ ap (λ (v : Queued). packedOf (answer (pop (queue.view q) .pair)) (pop (queue.view q) .took) (v .held)) (popped-view q formed)
+    ∙ ap (packedOf (answer (pop (queue.view q) .pair)) (pop (queue.view q) .took)) (popped-view q formed)
 
 send-well-packed : (o : Owed) (q : Queue) → queue.wellFormed q ≡ true → All WellPacked (packedBy o q)
 send-well-packed (owed.Repeat p) q formed = tt
@@ -81,7 +81,7 @@ all-well-packed calls s g =
 held-by-parts : (before middle after : Option Code) (ms ns : List Packed) → HeldNext before ms middle → HeldNext middle ns after → HeldNext before (ms ++ ns) after
 held-by-parts before middle after [] ns first second = subst (λ (h : Option Code). HeldNext h ns after) (sym first) second
 held-by-parts before middle after (m ∷ ms) ns first second =
-    (first .0, held-by-parts (m .held) middle after ms ns (first .1) second)
+    (first .0, held-by-parts (m .left .held) middle after ms ns (first .1) second)
 
 abbrev heldIn : Sender → Option Code
 heldIn s = view s .queue .held

@@ -209,19 +209,19 @@ module _ (ps : List Pair) (codes : List Code) where
       (same-first (pair a 0x80) ps (toCome (some c) codes) go)
 
   -- a pair shows what its codes show, and the space before the command that is then held
-  by-made : (before : Option Code) {p : Pair} {taken : List Code} {held : Option Code} → MadeOf p taken held → AfterHeld before taken → noHalfCommand (taken ++ codes) ≡ true → Next held codes → Alike ps (toCome held codes) → Alike (p ∷ ps) (toCome before (taken ++ codes))
+  by-made : (before : Option Code) {p : Pair} {taken : List Code} {left : Queued} → MadeOf p taken left → AfterHeld before taken → noHalfCommand (taken ++ codes) ≡ true → Next (left .held) codes → Alike ps (toCome (left .held) codes) → Alike (p ∷ ps) (toCome before (taken ++ codes))
   by-made none nothing-to-send after whole next go = padding-first ps (eachAlone codes) go
   by-made (some d) nothing-to-send after whole next go = absurd (omega (arith, ap length after))
-  by-made none (space-before c needs) after whole next go =
+  by-made none (space-before c rest needs) after whole next go =
       subst (Alike (spaceAlone ∷ ps)) (sym (space-out c needs next)) (same-first spaceAlone ps (toCome (some c) codes) go)
-  by-made (some d) (space-before c needs) after whole next go = absurd (omega (arith, ap length after))
+  by-made (some d) (space-before c rest needs) after whole next go = absurd (omega (arith, ap length after))
   by-made before (last-single x a written) after whole next go =
       subst (Alike (pair a 0x80 ∷ ps)) (sym (first-as before x (pair a 0x80) 1 [] codes written after))
       (same-first (pair a 0x80) ps (eachAlone codes) go)
-  by-made before (single-before x c a written two) after whole next go =
+  by-made before (single-before x c a rest written two) after whole next go =
       subst (Alike (pair a (cond (needsBackspace c) 0x20 0x80) ∷ ps)) (sym (first-as before x (pair a 0x80) 1 [] codes written after))
       (single-shown c a (needsBackspace c) refl (byte-is-text x a written (whole-by x codes whole)) next go)
-  by-made before (two-singles x y a b written other) after whole next go =
+  by-made before (two-singles x y a b rest written other) after whole next go =
       subst (Alike (pair a b ∷ ps))
       (sym
       (first-as before x (pair a 0x80) 1 (y ∷ []) (y ∷ codes) written after
@@ -229,7 +229,7 @@ module _ (ps : List Pair) (codes : List Code) where
       (two-texts a b ps (eachAlone codes) (byte-is-text x a written (whole-by x (y ∷ codes) whole))
       (byte-is-text y b other (whole-by y codes (whole-after x (y ∷ codes) whole)))
       go)
-  by-made before (command-alone c p written) after whole next go =
+  by-made before (command-alone c p rest written) after whole next go =
       subst (Alike (p ∷ ps)) (sym (first-as before c p 2 [] codes written after)) (same-first p ps (eachAlone codes) go)
 
 -- so do all of them, where nothing is held at the end
@@ -249,8 +249,8 @@ nothing-to-come (some c) e s t same = (refl, same)
 packed-show-their-codes : (before : Option Code) (ms : List Packed) → All WellPacked ms → HeldNext before ms none → noHalfCommand (codesIn ms) ≡ true → Alike (pairsIn ms) (toCome before (codesIn ms))
 packed-show-their-codes before [] all held whole = nothing-to-come before held
 packed-show-their-codes before (m ∷ ms) all held whole =
-    by-made (pairsIn ms) (codesIn ms) before (all .0 .is-made-of) (held .0) whole (held-next (m .held) ms (held .1))
-    (packed-show-their-codes (m .held) ms (all .1) (held .1) (whole-later (m .codes) (codesIn ms) whole))
+    by-made (pairsIn ms) (codesIn ms) before (all .0 .is-made-of) (held .0) whole (held-next (m .left .held) ms (held .1))
+    (packed-show-their-codes (m .left .held) ms (all .1) (held .1) (whole-later (m .codes) (codesIn ms) whole))
 
 -- once idle, nothing is inside
 nothing-held : (h : Option Code) (n : ℕ) → n + length (heldCodes h) ≡ 0 → h ≡ none

@@ -9,7 +9,7 @@ use Rattle.code.specs.Read.{isCommandPair}
 use Rattle.code.specs.declared.code.Code.{Code}
 use Rattle.code.specs.declared.pair.Pair.{Pair}
 use Rattle.queue.specs.Calls.{takenBy}
-use Rattle.queue.specs.Queue.{inside}
+use Rattle.queue.specs.Queue.{Queued, inside}
 use Rattle.queue.specs.Ring.{popRing}
 use Rattle.queue.specs.Ring as ring
 use Rattle.queue.specs.Made.{AfterHeld, MadeOf, makesCommand}
@@ -22,19 +22,19 @@ use Rattle.sender.specs.declared.sender.Owed.the-variants as owed
 use Rattle.sender.specs.declared.sender.Sender.{Sender}
 use Rattle.agreement.specs.Agreement.{All, queuePairs, sentBy}
 
--- the queue's pairs, each with the codes that its pop took and the command that is held after it
+-- the queue's pairs, each with the codes that its pop took and what is in the queue after it
 pub record Packed : Type 0 where
   pub pair : Pair
   pub codes : List Code
-  pub held : Option Code
+  pub left : Queued
 
-abbrev pub packedOf : Outcome Pair → List Code → Option Code → List Packed
-packedOf (answer p) taken held = record { pair = p; codes = taken; held = held } ∷ []
-packedOf (refused n) taken held = []
+abbrev pub packedOf : Outcome Pair → List Code → Queued → List Packed
+packedOf (answer p) taken left = record { pair = p; codes = taken; left = left } ∷ []
+packedOf (refused n) taken left = []
 
 abbrev pub packedBy : Owed → Queue → List Packed
 packedBy (owed.Repeat p) q = []
-packedBy owed.Absent q = packedOf (popRing q .0) (takenBy q) (ring.view (popRing q .1) .held)
+packedBy owed.Absent q = packedOf (popRing q .0) (takenBy q) (ring.view (popRing q .1))
 
 abbrev pub packedPair : Sender → List Packed
 packedPair s = packedBy (s .repeats .owed) (s .queue)
@@ -54,11 +54,11 @@ codesIn (m ∷ ms) = m .codes ++ codesIn ms
 -- one that needs a backspace only so
 abbrev pub HeldNext : Option Code → List Packed → Option Code → Type 0
 HeldNext before [] after = before ≡ after
-HeldNext before (m ∷ ms) after = AfterHeld before (m .codes) × HeldNext (m .held) ms after
+HeldNext before (m ∷ ms) after = AfterHeld before (m .codes) × HeldNext (m .left .held) ms after
 
--- a pair that is made of its codes, and is a command pair exactly where they make it one
+-- a pair that is made of its codes, by what is then in the queue, and is a command pair exactly where they make it one
 pub record WellPacked (m : Packed) : Type 0 where
-  pub is-made-of : MadeOf (m .pair) (m .codes) (m .held)
+  pub is-made-of : MadeOf (m .pair) (m .codes) (m .left)
   pub command : isCommandPair (m .pair) ≡ makesCommand (m .codes)
 
 -- a pair whose codes make a command is sent twice in a row, any other once

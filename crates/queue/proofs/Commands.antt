@@ -86,14 +86,14 @@ byte-is-single : (x : Code) (a : ℕ) → IsByte x a → hasTwoByteCode (x ∷ [
 byte-is-single x a written =
     ap (λ (n : ℕ). not (eqb n 1) || false) (sym (written-is-sent x (pair a 0x80) 1 written .1))
 
-by-made : {p : Pair} {l : List Code} {h : Option Code} → MadeOf p l h → FirstQueueable l → isCommandPair p ≡ makesCommand l
+by-made : {p : Pair} {l : List Code} {left : Queued} → MadeOf p l left → FirstQueueable l → isCommandPair p ≡ makesCommand l
 by-made nothing-to-send first = refl
-by-made (space-before c needs) first = refl
+by-made (space-before c rest needs) first = refl
 by-made (last-single x a written) first = written-says-command x (pair a 0x80) 1 written ∙ first-makes x [] first refl
-by-made (single-before x c a written two) first = written-says-command x (pair a 0x80) 1 written ∙ first-makes x [] first refl
-by-made (two-singles x y a b written next) first =
+by-made (single-before x c a rest written two) first = written-says-command x (pair a 0x80) 1 written ∙ first-makes x [] first refl
+by-made (two-singles x y a b rest written next) first =
     written-says-command x (pair a 0x80) 1 written ∙ first-makes x (y ∷ []) first (byte-is-single y b next)
-by-made (command-alone c p written) first = written-says-command c p 2 written ∙ first-makes c [] first refl
+by-made (command-alone c p rest written) first = written-says-command c p 2 written ∙ first-makes c [] first refl
 
 pub popped-is-a-command : (v : Queued) → Fit v → isCommandPair (pop v .pair) ≡ makesCommand (pop v .took)
 popped-is-a-command v f = by-made (made-of v f) (taken-queueable v f)

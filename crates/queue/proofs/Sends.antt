@@ -1,6 +1,6 @@
--- What a pop sends is what it took: its pair is made of the codes taken and of the command then held, which the next pop
--- takes, alone. With first in first out, no code is sent that was not accepted, none is left out, and the bytes are in
--- order.
+-- What a pop sends is what it took: its pair is made of the codes taken, by what is then in the queue. The next pop takes
+-- a command that is then held, alone. With first in first out, no code is sent that was not accepted, none is left out, and
+-- the bytes are in order.
 -- Assumes nothing.
 use mathlib.Core.Bool.{Bool, true, false, cond, _&&_, true≢false}
 use mathlib.Core.List.{List, [], _∷_}
@@ -49,11 +49,11 @@ command-as-pair c may two =
     ∙ ap {B = Outcome (Pair × ℕ)} (λ (n : ℕ). answer (pairOf c, n)) (eqb-true (byteLen c) 2 two)
 
 abbrev IsMade : Pop → Type 0
-IsMade p = MadeOf (p .pair) (p .took) (p .next .held)
+IsMade p = MadeOf (p .pair) (p .took) (p .next)
 
 two-made : (x y : Code) (rest : List Code) (t : Bool) → isSingle y ≡ t → IsByte x (byteOf x) → mayWait y ≡ true → IsMade (popTwo x y rest)
-two-made x y rest true e first may = rw e (two-singles x y (byteOf x) (byteOf y) first (single-as-byte y may e))
-two-made x y rest false e first may = rw e (single-before x y (byteOf x) first (eqb-true (byteLen y) 2 (not-one-is-two y e)))
+two-made x y rest true e first may = rw e (two-singles x y (byteOf x) (byteOf y) rest first (single-as-byte y may e))
+two-made x y rest false e first may = rw e (single-before x y (byteOf x) rest first (eqb-true (byteLen y) 2 (not-one-is-two y e)))
 
 single-made : (x : Code) (rest : List Code) → isSingle x ≡ true → allMayWait (x ∷ rest) ≡ true → IsMade (popSingle x rest)
 single-made x [] single all = last-single x (byteOf x) (single-as-byte x (both-left (mayWait x) true all) single)
@@ -63,8 +63,8 @@ single-made x (y ∷ rest) single all =
     (both-left (mayWait y) (allMayWait rest) behind)
 
 command-made : (x : Code) (rest : List Code) (t : Bool) → needsBackspace x ≡ t → isSingle x ≡ false → mayWait x ≡ true → IsMade (popCommand x rest)
-command-made x rest true e two may = rw e (space-before x e)
-command-made x rest false e two may = rw e (command-alone x (pairOf x) (command-as-pair x (may-queueable x may) (not-one-is-two x two)))
+command-made x rest true e two may = rw e (space-before x rest e)
+command-made x rest false e two may = rw e (command-alone x (pairOf x) rest (command-as-pair x (may-queueable x may) (not-one-is-two x two)))
 
 waiting-made : (x : Code) (rest : List Code) (t : Bool) → isSingle x ≡ t → allMayWait (x ∷ rest) ≡ true → IsMade (popWaiting (x ∷ rest))
 waiting-made x rest true e all = rw e (single-made x rest e all)
@@ -73,12 +73,12 @@ waiting-made x rest false e all =
 
 held-made : (h : Option Code) (l : List Code) → Fit (queued l h) → IsMade (popHeld h l)
 held-made (some c) l f =
-    command-alone c (pairOf c)
+    command-alone c (pairOf c) l
     (command-as-pair c (both-right (eqb (byteLen c) 2) (isQueueable c) (f .held)) (both-left (eqb (byteLen c) 2) (isQueueable c) (f .held)))
 held-made none [] f = nothing-to-send
 held-made none (x ∷ rest) f = waiting-made x rest (isSingle x) refl (f .codes)
 
-pub made-of : (v : Queued) → Fit v → MadeOf (pop v .pair) (pop v .took) (pop v .next .held)
+pub made-of : (v : Queued) → Fit v → MadeOf (pop v .pair) (pop v .took) (pop v .next)
 unfolding pop
 made-of v f = held-made (v .held) (v .waiting) f
 

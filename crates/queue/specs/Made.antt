@@ -1,6 +1,6 @@
--- What a pair of the queue is made of, from 01's section "Queue and sender": the codes that its pop took and the command
--- that is held after it; and what a pop takes by what was held before it. And which of these pairs are to be command
--- pairs, by T-04: those that were made of a two-byte code. Half a command is the one exception.
+-- What a pair of the queue is made of, from 01's section "Queue and sender": the codes that its pop took, and what is in
+-- the queue after it; and what a pop takes by what was held before it. And which of these pairs are to be command pairs, by
+-- T-04: those that were made of a two-byte code. Half a command is the one exception.
 use Prim.Native.Nat.{ℕ}
 use mathlib.Core.Bool.{Bool, true, false, cond, _||_, not}
 use mathlib.Core.List.{List, [], _∷_}
@@ -14,22 +14,23 @@ use Rattle.code.specs.Write.{writeCode}
 use Rattle.code.specs.declared.code.Code.{Code}
 use Rattle.code.specs.declared.code.Code.the-variants as code
 use Rattle.code.specs.declared.pair.Pair.{Pair}
-use Rattle.queue.specs.Queue.{isSingle}
+use Rattle.queue.specs.Queue.{Queued, empty, isSingle, queued}
 
 -- a single code that is written as this byte, with 0x80 after it
 abbrev pub IsByte : Code → ℕ → Type 0
 IsByte x a = writeCode x ≡ answer (pair a 0x80, 1)
 
--- with nothing to send, padding; a space where the command now held needs a backspace and no single code is before it; the
--- last single code with 0x80; a single code before the command now held, with 0x80, or with 0x20 where that needs a
--- backspace; two single codes in their order; a command by itself
-pub data MadeOf : Pair → List Code → Option Code → Type 0 where
-  nothing-to-send : MadeOf (pair 0x80 0x80) [] none
-  space-before : (c : Code) → needsBackspace c ≡ true → MadeOf (pair 0x20 0x80) [] (some c)
-  last-single : (x : Code) (a : ℕ) → IsByte x a → MadeOf (pair a 0x80) (x ∷ []) none
-  single-before : (x c : Code) (a : ℕ) → IsByte x a → byteLen c ≡ 2 → MadeOf (pair a (cond (needsBackspace c) 0x20 0x80)) (x ∷ []) (some c)
-  two-singles : (x y : Code) (a b : ℕ) → IsByte x a → IsByte y b → MadeOf (pair a b) (x ∷ y ∷ []) none
-  command-alone : (c : Code) (p : Pair) → writeCode c ≡ answer (p, 2) → MadeOf p (c ∷ []) none
+-- padding, where nothing waits and nothing is held; a space where the command now held needs a backspace and no single
+-- code is before it; the last single code with 0x80, where nothing waits after it; a single code before the command now
+-- held, with 0x80, or with 0x20 where that needs a backspace; two single codes in their order; a command by itself. After
+-- the other four, `rest` waits, which may be any codes
+pub data MadeOf : Pair → List Code → Queued → Type 0 where
+  nothing-to-send : MadeOf (pair 0x80 0x80) [] empty
+  space-before : (c : Code) (rest : List Code) → needsBackspace c ≡ true → MadeOf (pair 0x20 0x80) [] (queued rest (some c))
+  last-single : (x : Code) (a : ℕ) → IsByte x a → MadeOf (pair a 0x80) (x ∷ []) empty
+  single-before : (x c : Code) (a : ℕ) (rest : List Code) → IsByte x a → byteLen c ≡ 2 → MadeOf (pair a (cond (needsBackspace c) 0x20 0x80)) (x ∷ []) (queued rest (some c))
+  two-singles : (x y : Code) (a b : ℕ) (rest : List Code) → IsByte x a → IsByte y b → MadeOf (pair a b) (x ∷ y ∷ []) (queued rest none)
+  command-alone : (c : Code) (p : Pair) (rest : List Code) → writeCode c ≡ answer (p, 2) → MadeOf p (c ∷ []) (queued rest none)
 
 -- whether a code among those taken needs a backspace
 abbrev pub hasBackspace : List Code → Bool
