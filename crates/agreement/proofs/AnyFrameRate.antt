@@ -10,7 +10,6 @@ use lib.Count.{ones, onesIn}
 use lib.ListN.{replicate}
 use Rattle.code.specs.Characters.{standard}
 use Rattle.code.specs.Outcome.{Outcome, answer, refused}
-use Rattle.code.specs.Pair.{samePair}
 use Rattle.code.specs.Read.{controlCodeOf, meaning, readPair, single}
 use Rattle.code.specs.Pair.{pair}
 use Rattle.code.specs.Write.{controlBytes, inDomain, onLine, writeCode}
@@ -47,7 +46,7 @@ use Rattle.agreement.specs.OneByOne.{AllOdd, IsOdd}
 use Rattle.agreement.specs.OneByOne as one
 use Rattle.receiver.specs.Heard.{eventOf, textEvent}
 use Rattle.code.specs.Code.{charOf}
-use Rattle.agreement.specs.Pairs.{carriageReturn, hi, padding}
+use Rattle.agreement.specs.Pairs.{carriageReturn, hi, isPadding, padding}
 
 -- read once, a pair gives the same from states of one channel and field, and leaves such states
 abbrev pub SameSteps : Stepped → Stepped → Type 0
@@ -93,7 +92,7 @@ module _ (p : Pair) (ps : List Pair) (go : (s t : Cea608State) → Same s t → 
         later .1,
       )
 
-  pair-first : (is : Bool) → samePair p padding ≡ is → (s t : Cea608State) → Same s t → ReadOnceAlike s (p ∷ ps) t (cond is (words ps) (p ∷ words ps))
+  pair-first : (is : Bool) → isPadding p ≡ is → (s t : Cea608State) → Same s t → ReadOnceAlike s (p ∷ ps) t (cond is (words ps) (p ∷ words ps))
   pair-first true e s t same =
       subst (λ (q : Pair). ReadOnceAlike s (q ∷ ps) t (words ps)) (sym (same-is-equal p padding e)) (padding-first s t same)
   pair-first false e s t same = word-first s t same
@@ -101,7 +100,7 @@ module _ (p : Pair) (ps : List Pair) (go : (s t : Cea608State) → Same s t → 
 words-read-alike : (ps : List Pair) (s t : Cea608State) → Same s t → ReadOnceAlike s ps t (words ps)
 words-read-alike [] s t same = (refl, same)
 words-read-alike (p ∷ ps) s t same =
-    pair-first p ps (λ (x y : Cea608State) (alike : Same x y). words-read-alike ps x y alike) (samePair p padding) refl s t same
+    pair-first p ps (λ (x y : Cea608State) (alike : Same x y). words-read-alike ps x y alike) (isPadding p) refl s t same
 
 -- and so do pairs of the same words, from any state
 pub same-words-read-alike : (s : Cea608State) (ps qs : List Pair) → words ps ≡ words qs → ReadOnceAlike s ps s qs
@@ -126,15 +125,15 @@ words-odd-by p ps false odd all = (odd, all)
 
 words-are-odd : (ps : List Pair) → AllOdd ps → AllOdd (words ps)
 words-are-odd [] all = tt
-words-are-odd (p ∷ ps) all = words-odd-by p (words ps) (samePair p padding) (all .0) (words-are-odd ps (all .1))
+words-are-odd (p ∷ ps) all = words-odd-by p (words ps) (isPadding p) (all .0) (words-are-odd ps (all .1))
 
-odd-by : (p : Pair) (ps : List Pair) (is : Bool) → samePair p padding ≡ is → (AllOdd (words ps) → AllOdd ps) → AllOdd (cond is (words ps) (p ∷ words ps)) → AllOdd (p ∷ ps)
+odd-by : (p : Pair) (ps : List Pair) (is : Bool) → isPadding p ≡ is → (AllOdd (words ps) → AllOdd ps) → AllOdd (cond is (words ps) (p ∷ words ps)) → AllOdd (p ∷ ps)
 odd-by p ps true e go all = (subst IsOdd (sym (same-is-equal p padding e)) padding-is-odd, go all)
 odd-by p ps false e go all = (all .0, go (all .1))
 
 odd-by-words : (ps : List Pair) → AllOdd (words ps) → AllOdd ps
 odd-by-words [] all = tt
-odd-by-words (p ∷ ps) all = odd-by p ps (samePair p padding) refl (odd-by-words ps) all
+odd-by-words (p ∷ ps) all = odd-by p ps (isPadding p) refl (odd-by-words ps) all
 
 pub at-any-frame-rate : AnyFrameRateLaw
 at-any-frame-rate calls padded arrived same line =

@@ -1,5 +1,6 @@
 -- The frame-rate law: padding at a place changes no answer to another pair, nor the channel or the field at the end,
--- exactly where it is harmless. Each direction is a law of its own, of a state of any contents.
+-- exactly where it is harmless. Each direction is a law of its own, of a state of any contents; between the two, from a state
+-- that is not settled, case (d) is left open.
 -- Assumes nothing.
 use mathlib.Core.Bool.{Bool, true, false, cond, not, _&&_, _||_, true≢false}
 use mathlib.Core.List.{List, [], _∷_}

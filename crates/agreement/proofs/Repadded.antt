@@ -9,7 +9,6 @@ use mathlib.Core.Path.{_≡_, refl, ap, sym, _∙_}
 use lib.Count.{ones, onesIn}
 use Rattle.code.specs.Channel.{channelOne}
 use Rattle.code.specs.Outcome.{Outcome}
-use Rattle.code.specs.Pair.{samePair}
 use Rattle.code.specs.Read.{controlCodeOf, meaning, readPair}
 use Rattle.code.specs.Pair.{pair}
 use Rattle.code.specs.declared.pair.Pair.{Pair}
@@ -19,9 +18,9 @@ use Rattle.agreement.proofs.DecodedOnce.{events-after}
 use Rattle.agreement.proofs.FrameRate.{frame-rate-law, may-repad-changes-nothing, reached-may-repad}
 use Rattle.agreement.proofs.Padding.{padding-step}
 use Rattle.agreement.proofs.OneByOne.{same-is-equal}
-use Rattle.agreement.specs.FrameRate.{Repadded, RepaddedLaw, Unchanged, harmless, toOthers}
+use Rattle.agreement.specs.FrameRate.{Repadded, RepaddedLaw, SameCaptions, Unchanged, harmless, toOthers}
 use Rattle.agreement.specs.FrameRate as repadded
-use Rattle.agreement.specs.Pairs.{carriageReturn, hi, padding}
+use Rattle.agreement.specs.Pairs.{carriageReturn, hi, isPadding, padding}
 use Rattle.receiver.specs.Reading.{after, answers, events}
 use Rattle.receiver.specs.Receiver.{fresh, step, Stepped}
 use Rattle.receiver.specs.Heard.{eventOf, textEvent}
@@ -34,7 +33,7 @@ repadded-law s ps qs repadded.ends = record { same-answers = refl; same-channel 
 repadded-law s ps qs (repadded.keeps {p = p} {ps = ps′} {qs = qs′} r) =
     let later = repadded-law (step s p .1) ps′ qs′ r in
     record {
-      same-answers = ap (λ (l : List (Outcome (Option Cea608))). cond (samePair padding p) l (step s p .0 ∷ l)) (later .same-answers);
+      same-answers = ap (λ (l : List (Outcome (Option Cea608))). cond (isPadding p) l (step s p .0 ∷ l)) (later .same-answers);
       same-channel = later .same-channel;
       same-field = later .same-field;
     }
@@ -55,21 +54,32 @@ repadded-law s ps qs (repadded.takes-out {ps = ps′} may r) =
       same-field = sym (same .same-field) ∙ later .same-field;
     }
 
+-- and one conversion may follow another
+pub step-by-step : (s : Cea608State) (ps qs rs : List Pair) → Repadded s ps qs → Repadded s qs rs → SameCaptions s ps rs
+step-by-step s ps qs rs first second =
+    let one = repadded-law s ps qs first in
+    let two = repadded-law s qs rs second in
+    record {
+      same-answers = one .same-answers ∙ two .same-answers;
+      same-channel = one .same-channel ∙ two .same-channel;
+      same-field = one .same-field ∙ two .same-field;
+    }
+
 -- padding gives no event, so the events are those of the other pairs
 module _ (s : Cea608State) (p : Pair) (os xs : List (Outcome (Option Cea608))) where
-  padding-is-silent : samePair padding p ≡ true → events (step s p .0 ∷ os) ≡ events os
+  padding-is-silent : isPadding p ≡ true → events (step s p .0 ∷ os) ≡ events os
   padding-is-silent is =
-      ap (λ (q : Pair). events (step s q .0 ∷ os)) (sym (same-is-equal padding p is))
+      ap (λ (q : Pair). events (step s q .0 ∷ os)) (same-is-equal p padding is)
       ∙ ap (λ (x : Stepped). events (x .0 ∷ os)) (padding-step s)
 
-  others-first : (t : Bool) → samePair padding p ≡ t → events xs ≡ events os → events (cond t xs (step s p .0 ∷ xs)) ≡ events (step s p .0 ∷ os)
+  others-first : (t : Bool) → isPadding p ≡ t → events xs ≡ events os → events (cond t xs (step s p .0 ∷ xs)) ≡ events (step s p .0 ∷ os)
   others-first true is e = e ∙ sym (padding-is-silent is)
   others-first false is e = events-after (step s p .0) xs os e
 
 events-of-others : (s : Cea608State) (ps : List Pair) → events (toOthers ps (answers s ps)) ≡ events (answers s ps)
 events-of-others s [] = refl
 events-of-others s (p ∷ ps) =
-    others-first s p (answers (step s p .1) ps) (toOthers ps (answers (step s p .1) ps)) (samePair padding p) refl
+    others-first s p (answers (step s p .1) ps) (toOthers ps (answers (step s p .1) ps)) (isPadding p) refl
     (events-of-others (step s p .1) ps)
 
 pub same-events : (s : Cea608State) (ps qs : List Pair) → Repadded s ps qs → events (answers s ps) ≡ events (answers s qs)

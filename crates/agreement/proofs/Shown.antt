@@ -62,8 +62,8 @@ use Rattle.agreement.proofs.Padding.{afterPadding, padding-once}
 use Rattle.agreement.proofs.QueuedCommands.{queued-commands}
 use Rattle.agreement.specs.Agreement.{Agreement, All, EndsIdle, queuePairs, sentBy}
 use Rattle.agreement.specs.Pairs.{hi, padding, rollUp2, spaceAlone}
-use Rattle.agreement.specs.QueuedCommands.{HeldNext, Packed, WellPacked, codesIn, packed, pairsIn}
-use Rattle.agreement.specs.Shown.{as-sent, padded-anew, Shows, ShownLaw, TwoRunsLaw, WholeRun, acceptedIn, eachAlone, noHalfCommand, byCharacter, shown}
+use Rattle.agreement.specs.QueuedCommands.{HeldNext, Packed, WellPacked, acceptedIn, codesIn, packed, pairsIn}
+use Rattle.agreement.specs.Shown.{as-sent, padded-anew, Shows, ShownLaw, TwoRunsLaw, WholeRun, eachAlone, noHalfCommand, byCharacter, shown}
 
 -- what an answer shows stands before what the answers after it show
 abbrev shownBy : Outcome (Option Cea608) → List Cea608

@@ -5,18 +5,17 @@
 use mathlib.Core.Bool.{cond}
 use mathlib.Core.List.{List, [], _∷_}
 use mathlib.Core.Path.{_≡_}
-use Rattle.code.specs.Pair.{samePair}
 use Rattle.code.specs.declared.pair.Pair.{Pair}
 use Rattle.agreement.specs.Agreement.{Agreement, Line, queuePairs}
 use Rattle.agreement.specs.Doubled.{doubled}
-use Rattle.agreement.specs.Pairs.{padding}
+use Rattle.agreement.specs.Pairs.{isPadding}
 use Rattle.sender.specs.Calls.{Call}
 use Rattle.sender.specs.Sender.{freshSender}
 
 -- the words of pairs: all but the padding
 abbrev pub words : List Pair → List Pair
 words [] = []
-words (p ∷ ps) = cond (samePair p padding) (words ps) (p ∷ words ps)
+words (p ∷ ps) = cond (isPadding p) (words ps) (p ∷ words ps)
 
 -- of any calls, resets among them and idle at the end or not, and of any pairs that have the words of the queue's: padding
 -- may have been put in and taken out anywhere

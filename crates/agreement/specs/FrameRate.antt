@@ -9,12 +9,11 @@ use mathlib.Core.Option.{Option, none, some}
 use mathlib.Core.Path.{_≡_}
 use Rattle.code.specs.Outcome.{Outcome}
 use Rattle.code.specs.Parity.{stripped}
-use Rattle.code.specs.Pair.{samePair}
 use Rattle.code.specs.Read.{controlCodeOf, isCommandPair, isOddPair}
 use Rattle.code.specs.declared.control.ControlCode.{ControlCode}
 use Rattle.code.specs.declared.pair.Pair.{Pair}
 use Rattle.event.specs.declared.event.Cea608.{Cea608}
-use Rattle.agreement.specs.Pairs.{padding}
+use Rattle.agreement.specs.Pairs.{isPadding, padding}
 use Rattle.receiver.specs.Heard.{eventOf}
 use Rattle.receiver.specs.Reading.{after, answers, once}
 use Rattle.receiver.specs.Receiver.{fresh, isLast, step}
@@ -100,7 +99,7 @@ pub data Repadded : Cea608State → List Pair → List Pair → Type 0 where
 
 -- of the answers to a stream's pairs, those to pairs that are no padding
 abbrev pub toOthers : List Pair → List (Outcome (Option Cea608)) → List (Outcome (Option Cea608))
-toOthers (p ∷ ps) (o ∷ os) = cond (samePair padding p) (toOthers ps os) (o ∷ toOthers ps os)
+toOthers (p ∷ ps) (o ∷ os) = cond (isPadding p) (toOthers ps os) (o ∷ toOthers ps os)
 toOthers [] os = []
 toOthers (p ∷ ps) [] = []
 

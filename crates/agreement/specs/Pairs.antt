@@ -1,9 +1,13 @@
 -- Pairs that the laws and their cases name, in the port's own words.
-use Rattle.code.specs.Pair.{pair}
+use mathlib.Core.Bool.{Bool}
+use Rattle.code.specs.Pair.{pair, samePair}
 use Rattle.code.specs.declared.pair.Pair.{Pair}
 
 abbrev pub padding : Pair
 padding = pair 0x80 0x80
+
+abbrev pub isPadding : Pair → Bool
+isPadding p = samePair p padding
 
 abbrev pub rollUp2 : Pair
 rollUp2 = pair 0x94 0x25

@@ -22,6 +22,10 @@ use Rattle.sender.specs.declared.sender.Owed.the-variants as owed
 use Rattle.sender.specs.declared.sender.Sender.{Sender}
 use Rattle.agreement.specs.Agreement.{All, queuePairs, sentBy}
 
+-- the codes that a run let in, in order
+abbrev pub acceptedIn : List Call → List Code
+acceptedIn calls = recordedAll calls (begun freshSender) .accepted
+
 -- the queue's pairs, each with the codes that its pop took and what is in the queue after it
 pub record Packed : Type 0 where
   pub pair : Pair
@@ -70,7 +74,7 @@ sentByCodes (m ∷ ms) = cond (makesCommand (m .codes)) (m .pair ∷ m .pair ∷
 -- is in one of them, in order, each is well packed, a held command is the next pair, and they are sent by their codes
 pub record QueuedCommands (calls : List Call) : Type 0 where
   pub all-pairs : pairsIn (packed calls freshSender) ≡ queuePairs calls freshSender
-  pub all-codes : codesIn (packed calls freshSender) ++ inside (view (senderAfter calls freshSender) .queue) ≡ recordedAll calls (begun freshSender) .accepted
+  pub all-codes : codesIn (packed calls freshSender) ++ inside (view (senderAfter calls freshSender) .queue) ≡ acceptedIn calls
   pub well-packed : All WellPacked (packed calls freshSender)
   pub held-is-next : HeldNext none (packed calls freshSender) (view (senderAfter calls freshSender) .queue .held)
   pub sent-by-codes : sentBy calls freshSender ++ stillOwed (senderAfter calls freshSender .repeats .owed) ≡ sentByCodes (packed calls freshSender)

@@ -17,12 +17,13 @@ use Rattle.queue.specs.Made.{isHalfCommand}
 use Rattle.queue.specs.Queue.{pairOf}
 use Rattle.receiver.specs.Reading.{after, afterOnce, answers, events, readOnce}
 use Rattle.receiver.specs.Receiver.{fresh}
-use Rattle.sender.specs.Calls.{Call, begun, noReset, recordedAll}
+use Rattle.sender.specs.Calls.{Call, noReset}
 use Rattle.sender.specs.Sender.{freshSender}
 use Rattle.agreement.specs.Agreement.{EndsIdle, Line, queuePairs, sentBy}
 use Rattle.agreement.specs.AnyFrameRate.{words}
 use Rattle.agreement.specs.Doubled.{doubled}
 use Rattle.agreement.specs.Pairs.{spaceAlone}
+use Rattle.agreement.specs.QueuedCommands.{acceptedIn}
 
 -- a text of one character, or nothing where it is absent
 abbrev pub oneCharacter : Bool → Channel → Character → List Cea608
@@ -61,10 +62,6 @@ sentAlone c = cond (needsBackspace c) (spaceAlone ∷ pairOf c ∷ []) (pairOf c
 abbrev pub eachAlone : List Code → List Pair
 eachAlone [] = []
 eachAlone (c ∷ cs) = sentAlone c ++ eachAlone cs
-
--- the codes that a run let in, in order
-abbrev pub acceptedIn : List Call → List Code
-acceptedIn calls = recordedAll calls (begun freshSender) .accepted
 
 -- half a command makes a command of whatever shares its pair
 abbrev pub noHalfCommand : List Code → Bool

@@ -1,7 +1,8 @@
 -- Pairs as every captioner knows them, with odd parity as they stand in caption files, each with its event. They are of
 -- channel one and field one, from the tables of 47 CFR 79.101, and for extended characters of CTA-608. They hold the
--- definitions to bytes: whoever exchanges two commands, rows, styles or modes in a definition and in its code meets this
--- list. `written-as-known` in proofs/KnownPairs.antt goes from the events to the pairs; the crate `receiver` goes back.
+-- definitions to bytes: whoever exchanges two events, rows, styles or modes in a definition and in its code meets this
+-- list. Commands without an event are in `KnownPairs` of `receiver`. `written-as-known` in proofs/KnownPairs.antt goes from
+-- the events to the pairs; the crate `receiver` goes back.
 use Prim.Native.Nat.{ℕ}
 use mathlib.Core.Bool.{Bool, true, false}
 use mathlib.Core.List.{List, [], _∷_, _++_}

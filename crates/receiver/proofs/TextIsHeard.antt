@@ -1,4 +1,4 @@
--- Text that shares one pair is heard, with the mark that its first code has.
+-- Text that shares one pair is heard, with the mark that its first code has; any text is heard character by character.
 -- Assumes nothing.
 use mathlib.Core.Bool.{false, true≢false}
 use mathlib.Core.Option.{Option, Option·none-ne-some, none, some}
@@ -31,7 +31,7 @@ use Rattle.receiver.proofs.SaidIsHeard.{control-reported, first-code, s
 use Rattle.receiver.specs.Heard as heard
 use Rattle.receiver.specs.Heard.{textEvent, textOf}
 use Rattle.receiver.specs.Receiver.{afterReading, heardCodes, heardText, lastField, state, step, Stepped, textFor}
-use Rattle.receiver.specs.SaidIsHeard.{InOnePair, Reported, TextIsHeardLaw, marked, only-a-first, only-a-second, only-a-symbol, two-letters}
+use Rattle.receiver.specs.SaidIsHeard.{CharacterByCharacterLaw, HeardAlone, InOnePair, Reported, TextIsHeardLaw, marked, only, only-a-first, only-a-second, only-a-symbol, two-letters}
 use Rattle.receiver.specs.declared.state.Cea608State.{Cea608State}
 use Rattle.receiver.specs.declared.state.LastChannel.{LastChannel}
 use Rattle.receiver.specs.declared.state.LastChannel.the-variants as channel
@@ -128,3 +128,23 @@ unfolding codesOf
 text-is-heard t f x y told one =
     let both = both-codes (characterCode (t .char1) (t .channel)) (characterCode (t .char2) (t .channel)) x y told in
     shared t f x y (both .0) (both .1) one
+
+-- a character's code alone is a letter or a symbol
+alone-in-one : (c : ℕ) (x : Code) → charOf x ≡ some c → InOnePair x code.Nul
+unfolding charOf
+alone-in-one c code.Nul has = absurd (Option·none-ne-some c has)
+alone-in-one c (code.Control s) has = only-a-symbol s
+alone-in-one c (code.Letter l) has = only-a-first l
+alone-in-one c (code.Unknown b) has = absurd (Option·none-ne-some c has)
+
+heard-alone : (t : Text) (f : Field) (x : Code) (k : Character) → characterCode k (t .channel) ≡ answer x → HeardAlone t f x k
+unfolding codesOf
+heard-alone t f x k told c is =
+    text-is-heard (only t x k) f x code.Nul (ap (λ (o : Outcome Code). inOrder o (answer code.Nul)) told)
+    (alone-in-one c x (has-its-character k (t .channel) x told ∙ ap characterOutcome is))
+
+pub character-by-character : CharacterByCharacterLaw
+unfolding codesOf
+character-by-character t f x y told =
+    let both = both-codes (characterCode (t .char1) (t .channel)) (characterCode (t .char2) (t .channel)) x y told in
+    (heard-alone t f x (t .char1) (both .0), heard-alone t f y (t .char2) (both .1))

@@ -1,7 +1,8 @@
 -- What is said is heard: the codes of an event, written as a pair and received, give that event. In the port's own words,
 -- over the definitions of `IntoCode`, of writing and of the receiver. `SaidIsHeardLaw` is of every event that is no text,
--- `TextIsHeardLaw` of text, and `ReportedAgainLaw` of whatever a receiver has reported. proofs/ has a file for each:
--- SaidIsHeard, TextIsHeard, ReportedAgain.
+-- `TextIsHeardLaw` and `CharacterByCharacterLaw` of text, and `ReportedAgainLaw` of whatever a receiver has reported.
+-- proofs/ has a file for each: SaidIsHeard, TextIsHeard, ReportedAgain.
+use Prim.Native.Nat.{ℕ}
 use mathlib.Core.Bool.{Bool, true, false}
 use mathlib.Core.Option.{some}
 use mathlib.Core.Path.{_≡_}
@@ -10,6 +11,8 @@ use Rattle.code.specs.Outcome.{answer}
 use Rattle.code.specs.Read.{isCommandPair}
 use Rattle.code.specs.Write.{writeTwo}
 use Rattle.code.specs.declared.channel.Field.{Field}
+use Rattle.code.specs.declared.character.Character.{Character}
+use Rattle.code.specs.declared.character.Character.the-variants as character
 use Rattle.code.specs.declared.code.Code.{Code}
 use Rattle.code.specs.declared.code.Code.the-variants as code
 use Rattle.code.specs.declared.control.CodeField.{CodeField}
@@ -87,6 +90,18 @@ marked t x = record { «needs_backspace» = needsBackspace x; char1 = t .char1; 
 abbrev pub TextIsHeardLaw : Type 0
 TextIsHeardLaw =
     (t : Text) (f : Field) (x y : Code) → codesOf (event.Text t) f ≡ codes x y → InOnePair x y → Reported x y f (event.Text (marked t x))
+
+-- Any text, also one that needs two pairs: each of its characters, sent as a pair of its own, is heard as a text of that
+-- character alone.
+abbrev pub only : Text → Code → Character → Text
+only t x k = record { «needs_backspace» = needsBackspace x; char1 = k; char2 = character.Absent; channel = t .channel }
+
+abbrev pub HeardAlone : Text → Field → Code → Character → Type 0
+HeardAlone t f x k = (c : ℕ) → k ≡ character.Point c → Reported x code.Nul f (event.Text (only t x k))
+
+abbrev pub CharacterByCharacterLaw : Type 0
+CharacterByCharacterLaw =
+    (t : Text) (f : Field) (x y : Code) → codesOf (event.Text t) f ≡ codes x y → HeardAlone t f x (t .char1) × HeardAlone t f y (t .char2)
 
 -- an event that a receiver has reported, mark and all, has codes for every field, and is heard again
 abbrev pub ReportedAgainLaw : Type 0
