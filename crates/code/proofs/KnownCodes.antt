@@ -1,4 +1,4 @@
--- The standard characters against ASCII, the indents by their columns, channels and fields by their numbers, and the
+-- The standard characters against ASCII, the indents by their indentColumns, channels and fields by their numbers, and the
 -- refusal of each call by its number in 01.
 -- Assumes nothing.
 use mathlib.Core.Bool.{false, cond}
@@ -13,7 +13,7 @@ use Rattle.code.specs.Channel.{channelId, channelOne, channelTwo, fieldI
 use Rattle.code.specs.Characters.{standard, symbols}
 use Rattle.code.specs.Code.{charOf, fromChar}
 use Rattle.code.specs.Control.{tabOffset}
-use Rattle.code.specs.KnownCodes.{Instead, columns, indents, isNotAscii, notAscii}
+use Rattle.code.specs.KnownCodes.{Instead, indentColumns, indents, isNotAscii, notAscii}
 use Rattle.code.specs.Outcome.{answer, refused}
 use Rattle.code.specs.Preamble.{fromIndent, indentIn, newPreamble}
 use Rattle.code.specs.Read.{readPair, single}
@@ -35,7 +35,7 @@ pub instead-of-ascii : map (λ (x : Instead). charOf (single (x .byte))) notAsci
 unfolding standard charOf
 instead-of-ascii = refl
 
-pub indents-by-column : (map fromIndent columns ≡ map answer indents) × (map indentIn indents ≡ map some columns)
+pub indents-by-column : (map fromIndent indentColumns ≡ map answer indents) × (map indentIn indents ≡ map some indentColumns)
 indents-by-column = (refl, refl)
 
 pub channels-and-fields-by-number : (channelId channelOne ≡ 1) × (channelId channelTwo ≡ 2) × (fieldId fieldOne ≡ 1) × (fieldId fieldTwo ≡ 2)

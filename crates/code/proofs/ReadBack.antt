@@ -112,26 +112,26 @@ channel-between false a from below = (
   agree-from (λ (x : ℕ). stripped (withChannel channelTwo x)) (withChannel channelTwo) 16 8 refl a from below,
 )
 
--- two bytes that mean a control, as they are sent and read
+-- two bytes that mean a control, as they are written and read
 module _ (f : CodeField) (ch : Channel) (a b : ℕ) (c : Control) (from : 16 ≤ a) (below : a < 24) (less : b < 128) (means : meaning a b ≡ some c) where
   abbrev named : ℕ
   named = withField f (pair a b)
 
-  abbrev sent : ℕ
-  sent = withChannel ch named
+  abbrev firstByte : ℕ
+  firstByte = withChannel ch named
 
   inside : (16 ≤ named) × (named < 24)
   inside = field-between f a b from below
 
   -- what was read is what was meant
-  means-again : meaning (withoutField (withoutChannel sent) b) b ≡ some c
+  means-again : meaning (withoutField (withoutChannel firstByte) b) b ≡ some c
   means-again =
       ap (λ (x : ℕ). meaning (withoutField x b) b) (channel-back (ch .0) named (inside .0) (inside .1))
       ∙ sym (ap (λ (m : Option Control). ifMeant m (readAs f a b)) means)
       ∙ field-back f a b from below less
       ∙ means
 
-  field-again : fieldOf (withoutChannel sent) b ≡ fieldRead f c
+  field-again : fieldOf (withoutChannel firstByte) b ≡ fieldRead f c
   field-again =
       ap (λ (x : ℕ). fieldOf x b) (channel-back (ch .0) named (inside .0) (inside .1))
       ∙ sym (ap (λ (m : Option Control). ifMeantField m (fieldWritten f a b)) means)
@@ -141,17 +141,17 @@ module _ (f : CodeField) (ch : Channel) (a b : ℕ) (c : Control) (from : 16 ≤
   abbrev back : ControlCode
   back = record { field = fieldRead f c; channel = ch; control = c }
 
-  command-back : controlCodeOf sent b ≡ back
+  command-back : controlCodeOf firstByte b ≡ back
   unfolding controlCodeOf
   command-back =
-      ap (λ (g : CodeField). record { field = g; channel = channelOf sent; control = orUnknown sent b (meaning (withoutField (withoutChannel sent) b) b) }) field-again
-      ∙ ap₂ {C = ControlCode} (λ (d : Channel) (m : Option Control). record { field = fieldRead f c; channel = d; control = orUnknown sent b m })
+      ap (λ (g : CodeField). record { field = g; channel = channelOf firstByte; control = orUnknown firstByte b (meaning (withoutField (withoutChannel firstByte) b) b) }) field-again
+      ∙ ap₂ {C = ControlCode} (λ (d : Channel) (m : Option Control). record { field = fieldRead f c; channel = d; control = orUnknown firstByte b m })
       (channel-kept (ch .0) named (inside .0) (inside .1)) means-again
 
-  first-kept : stripped (withParity sent) ≡ sent
-  first-kept = data-kept sent ∙ channel-between (ch .0) named (inside .0) (inside .1) .1
+  first-kept : stripped (withParity firstByte) ≡ firstByte
+  first-kept = data-kept firstByte ∙ channel-between (ch .0) named (inside .0) (inside .1) .1
 
-  first-is-command : isCommand (stripped (withParity sent)) ≡ true
+  first-is-command : isCommand (stripped (withParity firstByte)) ≡ true
   first-is-command = ap isCommand first-kept ∙ channel-between (ch .0) named (inside .0) (inside .1) .0
 
   pub sent-as-command : isCommandPair (onLine f ch (pair a b)) ≡ true
@@ -162,7 +162,7 @@ module _ (f : CodeField) (ch : Channel) (a b : ℕ) (c : Control) (from : 16 ≤
   unfolding onLine
   bytes-read-back =
       let second : stripped (withParity b) ≡ b = data-kept b ∙ small-stays b less in
-      read-as-command (withParity sent) (withParity b) (with-parity sent .odd) (with-parity b .odd) first-is-command
+      read-as-command (withParity firstByte) (withParity b) (with-parity firstByte .odd) (with-parity b .odd) first-is-command
       ∙ ap₂ {C = Outcome (Code × Code)} (λ (x y : ℕ). answer (code.Control (controlCodeOf x y), code.Nul)) first-kept second
       ∙ ap {B = Outcome (Code × Code)} (λ (x : ControlCode). answer (code.Control x, code.Nul)) command-back
 
@@ -185,7 +185,7 @@ by-bytes f ch c p bytes fits means =
     let less = ltb-true (p .1) 0x80 (range .1) in
     let below = first-below (p .0) (p .1) c (ltb (p .0) 24) refl to less means in
     record {
-      sent = onLine f ch p;
+      pair = onLine f ch p;
       written = control-written (record { field = f; channel = ch; control = c }) p bytes;
       read = bytes-read-back f ch (p .0) (p .1) c from below less means;
       is-command = sent-as-command f ch (p .0) (p .1) c from below less means;
@@ -256,7 +256,7 @@ text-reads-back x y px py =
     let second : stripped (withParity b) ≡ b = data-kept b ∙ small-stays b (two .small) in
     let text : isCommand (stripped (withParity a)) ≡ false = ap isCommand first ∙ one .no-command in
     record {
-      sent = pair (withParity a) (withParity b);
+      pair = pair (withParity a) (withParity b);
       written = ap₂ together (one .written) (two .written);
       odd = rw (with-parity a .odd, with-parity b .odd) refl;
       read =

@@ -39,8 +39,8 @@ abbrev pub isNotAscii : ℕ → Bool
 isNotAscii b = isAmong b notAscii
 
 -- the indents, each with its column
-abbrev pub columns : List ℕ
-columns = 0 ∷ 4 ∷ 8 ∷ 12 ∷ 16 ∷ 20 ∷ 24 ∷ 28 ∷ []
+abbrev pub indentColumns : List ℕ
+indentColumns = 0 ∷ 4 ∷ 8 ∷ 12 ∷ 16 ∷ 20 ∷ 24 ∷ 28 ∷ []
 
 abbrev pub indents : List PreambleType
 indents = Indent0 ∷ Indent4 ∷ Indent8 ∷ Indent12 ∷ Indent16 ∷ Indent20 ∷ Indent24 ∷ Indent28 ∷ []

@@ -33,10 +33,10 @@ fieldRead f (control.Unknown a b) = Absent
 
 -- a control code as it is written and read back
 pub record ReadsBack (f : CodeField) (ch : Channel) (c : Control) : Type 0 where
-  pub sent : Pair
-  pub written : writeCode (code.Control (record { field = f; channel = ch; control = c })) ≡ answer (sent, 2)
-  pub read : readPair (sent .0) (sent .1) ≡ answer (code.Control (record { field = fieldRead f c; channel = ch; control = c }), code.Nul)
-  pub is-command : isCommandPair sent ≡ true
+  pub pair : Pair
+  pub written : writeCode (code.Control (record { field = f; channel = ch; control = c })) ≡ answer (pair, 2)
+  pub read : readPair (pair .0) (pair .1) ≡ answer (code.Control (record { field = fieldRead f c; channel = ch; control = c }), code.Nul)
+  pub is-command : isCommandPair pair ≡ true
 
 -- NUL and letters
 abbrev pub isPlain : Code → Bool
@@ -46,8 +46,8 @@ isPlain (code.Letter l) = true
 isPlain (code.Unknown b) = false
 
 pub record TextReadsBack (x y : Code) : Type 0 where
-  pub sent : Pair
-  pub written : writeTwo x y ≡ answer sent
-  pub odd : isOddPair sent ≡ true
-  pub read : readPair (sent .0) (sent .1) ≡ answer (x, y)
-  pub no-command : isCommandPair sent ≡ false
+  pub pair : Pair
+  pub written : writeTwo x y ≡ answer pair
+  pub odd : isOddPair pair ≡ true
+  pub read : readPair (pair .0) (pair .1) ≡ answer (x, y)
+  pub no-command : isCommandPair pair ≡ false

@@ -50,12 +50,12 @@ nul-written = refl
 pub control-reported : (g : CodeField) (f : Field) (ch : Channel) (c : Control) (e : Cea608) → ReadsBack g ch c → controlEvent ch c ≡ some e → ch ≡ channelOfEvent e → fieldRead g c ≡ fieldNamed e f → Reported (code.Control (record { field = g; channel = ch; control = c })) code.Nul f e
 unfolding eventOf
 control-reported g f ch c e back is on named = record {
-  sent = back .sent;
+  pair = back .pair;
   written = ap₂ together (back .written) nul-written;
   command-decoded = λ is-command s other.
-      command-acts s (back .sent) (record { field = fieldRead g c; channel = ch; control = c }) (code.Nul, back .read) other
-      ∙ ap₂ {C = Stepped} (λ (o : Option Cea608) (d : Channel). (answer o, state (last.Was (back .sent)) (channel.Known d) (fieldAfter (fieldRead g c) (lastField s)))) is on
-      ∙ ap {B = Stepped} (λ (h : CodeField). (answer (some e), state (last.Was (back .sent)) (channel.Known (channelOfEvent e)) (fieldAfter h (lastField s)))) named;
+      command-acts s (back .pair) (record { field = fieldRead g c; channel = ch; control = c }) (code.Nul, back .read) other
+      ∙ ap₂ {C = Stepped} (λ (o : Option Cea608) (d : Channel). (answer o, state (last.Was (back .pair)) (channel.Known d) (fieldAfter (fieldRead g c) (lastField s)))) is on
+      ∙ ap {B = Stepped} (λ (h : CodeField). (answer (some e), state (last.Was (back .pair)) (channel.Known (channelOfEvent e)) (fieldAfter h (lastField s)))) named;
   text-decoded = λ is-text s on-it. absurd (true≢false (sym (back .is-command) ∙ is-text));
 }
 

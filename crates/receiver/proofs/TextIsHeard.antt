@@ -62,14 +62,14 @@ made ch character.Absent character.Absent some-character = absurd (some-characte
 plain-reported : (t : Text) (f : Field) (x y : Code) → TextReadsBack x y → ((s : Cea608State) (p : Pair) → heardCodes s p x y ≡ heardText s p x y) → textEvent (t .channel) x y ≡ some (event.Text t) → Reported x y f (event.Text t)
 unfolding step
 plain-reported t f x y back as-text is = record {
-  sent = back .sent;
+  pair = back .pair;
   written = back .written;
   command-decoded = λ is-command s other. absurd (true≢false (sym is-command ∙ back .no-command));
   text-decoded = λ is-text s on.
-      ap (afterReading s (back .sent)) (back .read)
-      ∙ as-text s (back .sent)
-      ∙ ap {B = Stepped} (λ (l : LastChannel). (answer (textFor l x y), state (last.Was (back .sent)) l (lastField s))) on
-      ∙ ap {B = Stepped} (λ (o : Option Cea608). (answer o, state (last.Was (back .sent)) (channel.Known (t .channel)) (lastField s))) is;
+      ap (afterReading s (back .pair)) (back .read)
+      ∙ as-text s (back .pair)
+      ∙ ap {B = Stepped} (λ (l : LastChannel). (answer (textFor l x y), state (last.Was (back .pair)) l (lastField s))) on
+      ∙ ap {B = Stepped} (λ (o : Option Cea608). (answer o, state (last.Was (back .pair)) (channel.Known (t .channel)) (lastField s))) is;
 }
 
 module _ (t : Text) (x y : Code) (first : characterCode (t .char1) (t .channel) ≡ answer x) (second : characterCode (t .char2) (t .channel) ≡ answer y) where

@@ -54,10 +54,10 @@ reports s p f e =
 -- two codes are written as one pair. Every receiver reports it as that event: a command unless it takes it for a repeat of
 -- the pair before it, text where the event's channel is the last one.
 pub record Reported (x y : Code) (f : Field) (e : Cea608) : Type 0 where
-  pub sent : Pair
-  pub written : writeTwo x y ≡ answer sent
-  pub command-decoded : isCommandPair sent ≡ true → (s : Cea608State) → isLast sent (s .«last_data») ≡ false → step s sent ≡ reports s sent f e
-  pub text-decoded : isCommandPair sent ≡ false → (s : Cea608State) → s .«last_channel» ≡ channel.Known (channelOfEvent e) → step s sent ≡ reports s sent f e
+  pub pair : Pair
+  pub written : writeTwo x y ≡ answer pair
+  pub command-decoded : isCommandPair pair ≡ true → (s : Cea608State) → isLast pair (s .«last_data») ≡ false → step s pair ≡ reports s pair f e
+  pub text-decoded : isCommandPair pair ≡ false → (s : Cea608State) → s .«last_channel» ≡ channel.Known (channelOfEvent e) → step s pair ≡ reports s pair f e
 
 abbrev pub isText : Cea608 → Bool
 isText (event.Text t) = true
