@@ -9,11 +9,10 @@ use Prim.Native.Nat.{ℕ}
 use borrow.Author.Tests.{not-false}
 use lib.Count.{ones, onesIn}
 use lib.Dec.{eqb}
-use Rattle.code.proofs.Both.{both-left, both-right}
+use Rattle.code.proofs.Both.{both-left}
 use Rattle.code.proofs.CommandCodes.{written-says-command}
 use Rattle.code.proofs.Written.{domain-is-written, settled, written-is-sent}
 use Rattle.code.specs.Channel.{channelOne}
-use Rattle.code.specs.Code.{byteLen}
 use Rattle.code.specs.Outcome.{Outcome, answer, isAnswer, refused}
 use Rattle.code.specs.Read.{controlCodeOf, isCommandPair, meaning, readPair, single}
 use Rattle.code.specs.Pair.{pair}
@@ -29,9 +28,10 @@ use Rattle.queue.proofs.Order.{pop-takes-from-the-front}
 use Rattle.queue.proofs.Pairs.{popped-command}
 use Rattle.queue.proofs.Dressed.{dressed-exactly, queueable-is-in-domain, queueable-is-not-dressed}
 use Rattle.queue.proofs.Sends.{made-of}
+use Rattle.queue.proofs.WellFormed.{held-queueable, may-queueable}
 use Rattle.queue.specs.Calls.{Reply, listReplies, popping, pushing, toPop, toPush}
 use Rattle.queue.specs.Good.{Fit}
-use Rattle.queue.specs.Queue.{Queued, admit, empty, inside, isNul, isSingle, mayWait, pairOf, pop, queued, pairWritten}
+use Rattle.queue.specs.Queue.{Queued, admit, empty, inside, isSingle, mayWait, pairOf, pop, queued, pairWritten}
 use Rattle.queue.specs.Queueable.{isQueueable, queueable}
 use Rattle.queue.specs.Ring.{allMayWait}
 use Rattle.queue.specs.Made.{IsByte, MadeOf, command-alone, last-single, nothing-to-send, single-before, space-before, two-singles, hasTwoByteCode, isHalfCommand, makesCommand, readsCommand}
@@ -60,10 +60,9 @@ FirstQueueable [] = Unit
 FirstQueueable (x ∷ l) = isQueueable x ≡ true
 
 fit-queueable : (l : List Code) (h : Option Code) → Fit (queued l h) → FirstQueueable (inside (queued l h))
-fit-queueable l (some c) f = both-right (eqb (byteLen c) 2) (isQueueable c) (f .held)
+fit-queueable l (some c) f = held-queueable c (f .held)
 fit-queueable [] none f = tt
-fit-queueable (x ∷ l) none f =
-    both-right (not (isNul x)) (isQueueable x) (both-left (mayWait x) (allMayWait l) (f .codes))
+fit-queueable (x ∷ l) none f = may-queueable x (both-left (mayWait x) (allMayWait l) (f .codes))
 
 front-queueable : (taken left : List Code) → FirstQueueable (taken ++ left) → FirstQueueable taken
 front-queueable [] left first = tt

@@ -22,7 +22,7 @@ use Rattle.code.specs.declared.code.Code.the-variants as code
 use Rattle.code.specs.declared.control.CodeField.the-variants.{Absent}
 use Rattle.code.specs.declared.control.Control.{Control}
 use Rattle.code.specs.declared.control.Control.the-variants as control
-use Rattle.queue.proofs.WellFormed.{formed}
+use Rattle.queue.proofs.WellFormed.{formed, held-queueable, may-queueable}
 use Rattle.queue.specs.Calls.{Reply, listReplies, popping, pushing, toPop, toPush}
 use Rattle.queue.specs.Queue.{admit, empty, heldCodes, inside, isNul, mayWait, pairOf, pop}
 use Rattle.queue.specs.Queueable.{isDressed, isDressedControl, isQueueable, noneDressed, queueable, unlessDressed}
@@ -96,13 +96,13 @@ one-undressed c cs may rest = rw (queueable-is-not-dressed c may) rest
 waiting-undressed : (l : List Code) → allMayWait l ≡ true → noneDressed l ≡ true
 waiting-undressed [] all = refl
 waiting-undressed (c ∷ cs) all =
-    one-undressed c cs (both-right (not (isNul c)) (isQueueable c) (both-left (mayWait c) (allMayWait cs) all))
+    one-undressed c cs (may-queueable c (both-left (mayWait c) (allMayWait cs) all))
     (waiting-undressed cs (both-right (mayWait c) (allMayWait cs) all))
 
 inside-undressed : (h : Option Code) (l : List Code) → heldFits h ≡ true → allMayWait l ≡ true → noneDressed (heldCodes h ++ l) ≡ true
 inside-undressed none l fits all = waiting-undressed l all
 inside-undressed (some c) l fits all =
-    one-undressed c l (both-right (eqb (byteLen c) 2) (isQueueable c) fits) (waiting-undressed l all)
+    one-undressed c l (held-queueable c fits) (waiting-undressed l all)
 
 pub no-text-inside : (q : Queue) → wellFormed q ≡ true → noneDressed (inside (view q)) ≡ true
 no-text-inside q e = let f = formed q e in inside-undressed (heldIn (q .held)) (waitingIn q) (f .held) (f .codes)

@@ -13,7 +13,7 @@ use Rattle.queue.proofs.Fit.{at-most-65}
 use Rattle.queue.proofs.Order.{pop-takes-from-the-front, push-puts-after}
 use Rattle.queue.proofs.Refines.{count-refines, fresh-good, good-fits, pop-good, pop-refines, push-good, push-refines}
 use Rattle.queue.proofs.WellFormed.{formed}
-use Rattle.queue.specs.Calls.{Call, pushing, popping, counting, resetting, Reply, toPush, toPop, toCount, History, recorded, recordedAll, begun, letIn, listReplies, onList, onRing, ringAfter, ringReplies, takenBy}
+use Rattle.queue.specs.Calls.{Call, pushing, popping, counting, resetting, Reply, toPush, toPop, toCount, History, InOrder, recorded, recordedAll, begun, letIn, listReplies, onList, onRing, ringAfter, ringReplies, takenBy}
 use Rattle.queue.specs.Good.{Good}
 use Rattle.queue.specs.Queue.{Queued, count, inside, pop, push}
 use Rattle.queue.specs.Ring.{countRing, freshRing, view, wellFormed}
@@ -64,7 +64,7 @@ ring-of-history (c ∷ cs) h = ring-of-history cs (recorded c h) ∙ ap (ringAft
 -- what every history keeps
 pub record Kept (h : History) : Type 0 where
   pub good : Good (h .ring)
-  pub order : h .accepted ≡ h .took ++ inside (view (h .ring))
+  pub order : InOrder h
 
 pub begun-kept : (q : Queue) → Good q → Kept (begun q)
 begun-kept q g = record { good = g; order = refl }
@@ -118,21 +118,19 @@ calls-kept [] h k = k
 calls-kept (c ∷ cs) h k = calls-kept cs (recorded c h) (call-kept c h k)
 
 -- from a fresh queue on, in whatever order it is called: accepted is taken, then held, then waiting
-pub first-in-first-out : (cs : List Call) → recordedAll cs (begun freshRing) .accepted ≡ recordedAll cs (begun freshRing) .took ++ inside (view (recordedAll cs (begun freshRing) .ring))
+pub first-in-first-out : (cs : List Call) → InOrder (recordedAll cs (begun freshRing))
 first-in-first-out cs = calls-kept cs (begun freshRing) (begun-kept freshRing fresh-good) .order
 
 -- and from any well-formed state on, where what was inside counts as accepted
-pub first-in-first-out-from : (q : Queue) → Good q → (cs : List Call) → recordedAll cs (begun q) .accepted ≡ recordedAll cs (begun q) .took ++ inside (view (recordedAll cs (begun q) .ring))
+pub first-in-first-out-from : (q : Queue) → Good q → (cs : List Call) → InOrder (recordedAll cs (begun q))
 first-in-first-out-from q g cs = calls-kept cs (begun q) (begun-kept q g) .order
 
 -- every state that is reached is well formed, with at most 64 waiting and at most 65 in all
-pub reachable-is-well-formed : (cs : List Call) → wellFormed (recordedAll cs (begun freshRing) .ring) ≡ true
-reachable-is-well-formed cs = calls-kept cs (begun freshRing) (begun-kept freshRing fresh-good) .good .formed
+pub reachable-is-well-formed : (cs : List Call) → wellFormed (ringAfter cs freshRing) ≡ true
+reachable-is-well-formed cs = calls-stay-good cs freshRing fresh-good .formed
 
-pub never-above-64 : (cs : List Call) → recordedAll cs (begun freshRing) .ring .waiting ≤ 64
-never-above-64 cs = formed (recordedAll cs (begun freshRing) .ring) (reachable-is-well-formed cs) .waiting
+pub never-above-64 : (cs : List Call) → ringAfter cs freshRing .waiting ≤ 64
+never-above-64 cs = formed (ringAfter cs freshRing) (reachable-is-well-formed cs) .waiting
 
-pub never-above-65 : (cs : List Call) → count (view (recordedAll cs (begun freshRing) .ring)) ≤ 65
-never-above-65 cs =
-    at-most-65 (view (recordedAll cs (begun freshRing) .ring))
-    (good-fits (recordedAll cs (begun freshRing) .ring) (reachable-is-well-formed cs))
+pub never-above-65 : (cs : List Call) → count (view (ringAfter cs freshRing)) ≤ 65
+never-above-65 cs = at-most-65 (view (ringAfter cs freshRing)) (good-fits (ringAfter cs freshRing) (reachable-is-well-formed cs))

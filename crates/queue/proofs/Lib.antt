@@ -2,7 +2,6 @@ pub mod Answers
 pub mod Commands
 pub mod Dressed
 pub mod Entries
-pub mod FirstByte
 pub mod FirstInFirstOut
 pub mod Fit
 pub mod IllFormed
@@ -18,4 +17,5 @@ pub mod Sends
 pub mod TriedByHand
 pub mod Turns
 pub mod Verdicts
+pub mod Ways
 pub mod WellFormed

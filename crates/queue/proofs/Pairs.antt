@@ -1,9 +1,8 @@
 -- What a pop sends: both bytes of odd parity, and a command pair exactly where the stripped first byte is 10 to 1F.
 -- Of a code's pair only the code layer's laws are used.
 -- Assumes nothing.
-use mathlib.Core.Bool.{Bool, true, false, cond, _&&_, not}
+use mathlib.Core.Bool.{Bool, true, false, cond, not}
 use mathlib.Core.List.{List, [], _∷_}
-use mathlib.Core.Option.{Option, none, some}
 use mathlib.Core.Path.{_≡_, refl, ap, sym, _∙_}
 use Prim.Native.Nat.{ℕ}
 use native.Mathlib.Omega.{arith}
@@ -21,8 +20,10 @@ use Rattle.code.specs.declared.code.Code.{Code}
 use Rattle.code.specs.declared.pair.Pair.{Pair}
 use Rattle.code.proofs.Both.{both-left, both-right}
 use Rattle.queue.proofs.Dressed.{queueable-is-in-domain}
+use Rattle.queue.proofs.Ways.{Way, held-code, nothing-inside, last-code, two-codes, before-command, space-first, command-goes, way-of}
+use Rattle.queue.proofs.WellFormed.{held-queueable, may-queueable}
 use Rattle.queue.specs.Good.{Fit}
-use Rattle.queue.specs.Queue.{Queued, isNul, isSingle, mayWait, pairOf, pop, popCommand, popHeld, popSingle, popTwo, popWaiting, queued, pairWritten}
+use Rattle.queue.specs.Queue.{Pop, Queued, mayWait, pairOf, pop, pairWritten}
 use Rattle.queue.specs.Queueable.{isQueueable}
 use Rattle.queue.specs.Ring.{allMayWait}
 use Rattle.queue.specs.Made.{readsCommand}
@@ -55,42 +56,24 @@ space-or-nul : (t : Bool) → SentByte (cond t 0x20 0x80)
 space-or-nul true = space-sent
 space-or-nul false = nul-sent
 
-pub may-queueable : (c : Code) → mayWait c ≡ true → isQueueable c ≡ true
-may-queueable c e = both-right (not (isNul c)) (isQueueable c) e
+waiting-sent : (c : Code) (l : List Code) → allMayWait (c ∷ l) ≡ true → SentPair (pairOf c)
+waiting-sent c l all = code-is-sent c (may-queueable c (both-left (mayWait c) (allMayWait l) all))
 
-waiting-sent : (c : Code) → mayWait c ≡ true → SentPair (pairOf c)
-waiting-sent c e = code-is-sent c (may-queueable c e)
-
-command-sent : (x : Code) (rest : List Code) (t : Bool) → needsBackspace x ≡ t → mayWait x ≡ true → SentPair (popCommand x rest .pair)
-command-sent x rest true e may = rw e (record { first = space-sent; second = nul-sent })
-command-sent x rest false e may = rw e (waiting-sent x may)
-
-two-sent : (x y : Code) (rest : List Code) (t : Bool) → isSingle y ≡ t → mayWait x ≡ true → mayWait y ≡ true → SentPair (popTwo x y rest .pair)
-two-sent x y rest true e may also = rw e (record { first = waiting-sent x may .first; second = waiting-sent y also .first })
-two-sent x y rest false e may also =
-    rw e (record { first = waiting-sent x may .first; second = space-or-nul (needsBackspace y) })
-
-single-sent : (x : Code) (rest : List Code) → allMayWait (x ∷ rest) ≡ true → SentPair (popSingle x rest .pair)
-single-sent x [] all = record { first = waiting-sent x (both-left (mayWait x) true all) .first; second = nul-sent }
-single-sent x (y ∷ rest) all =
-    let behind = both-right (mayWait x) (mayWait y && allMayWait rest) all in
-    two-sent x y rest (isSingle y) refl (both-left (mayWait x) (mayWait y && allMayWait rest) all)
-    (both-left (mayWait y) (allMayWait rest) behind)
-
-list-sent : (x : Code) (rest : List Code) (t : Bool) → isSingle x ≡ t → allMayWait (x ∷ rest) ≡ true → SentPair (popWaiting (x ∷ rest) .pair)
-list-sent x rest true e all = rw e (single-sent x rest all)
-list-sent x rest false e all =
-    rw e (command-sent x rest (needsBackspace x) refl (both-left (mayWait x) (allMayWait rest) all))
-
-held-sent : (h : Option Code) (l : List Code) → Fit (queued l h) → SentPair (popHeld h l .pair)
-held-sent (some c) l f = code-is-sent c (both-right (eqb (byteLen c) 2) (isQueueable c) (f .held))
-held-sent none [] f = record { first = nul-sent; second = nul-sent }
-held-sent none (x ∷ rest) f = list-sent x rest (isSingle x) refl (f .codes)
+pair-sent : {v : Queued} {p : Pop} → Way v p → Fit v → SentPair (p .pair)
+pair-sent (held-code c l) f = code-is-sent c (held-queueable c (f .held))
+pair-sent nothing-inside f = record { first = nul-sent; second = nul-sent }
+pair-sent (last-code x e) f = record { first = waiting-sent x [] (f .codes) .first; second = nul-sent }
+pair-sent (two-codes x y l e next) f =
+    let after-first = both-right (mayWait x) (allMayWait (y ∷ l)) (f .codes) in
+    record { first = waiting-sent x (y ∷ l) (f .codes) .first; second = waiting-sent y l after-first .first }
+pair-sent (before-command x y l e next) f =
+    record { first = waiting-sent x (y ∷ l) (f .codes) .first; second = space-or-nul (needsBackspace y) }
+pair-sent (space-first x l e wants) f = record { first = space-sent; second = nul-sent }
+pair-sent (command-goes x l e wants) f = waiting-sent x l (f .codes)
 
 -- every popped pair has odd parity in both bytes
 pub popped-is-sent : (v : Queued) → Fit v → SentPair (pop v .pair)
-unfolding pop
-popped-is-sent v f = held-sent (v .held) (v .waiting) f
+popped-is-sent v f = pair-sent (way-of v) f
 
 read-by : (p : Pair) (t : Bool) → SentPair p → isCommand (stripped (p .0)) ≡ t → readsCommand (readPair (p .0) (p .1)) ≡ t
 read-by p true s e = ap readsCommand (read-as-command (p .0) (p .1) (s .first .odd) (s .second .odd) e)

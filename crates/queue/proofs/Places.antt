@@ -10,6 +10,7 @@ use native.Mathlib.Omega.{arith}
 use lib.ListN.{drop, getD, length, set}
 use lib.Seq.{getD-set-other, getD-set-same}
 use Rattle.code.specs.declared.code.Code.{Code}
+use Rattle.code.specs.declared.code.Code.the-variants as code
 use Rattle.queue.specs.Number.{codeOf}
 use Rattle.queue.specs.Ring.{codeAtPlace, codesFrom, numberAt}
 
@@ -22,6 +23,16 @@ place-is places at less =
 pub how-many : (places : List ℕ) (at n : ℕ) → length (codesFrom places at n) ≡ n
 how-many places at zero = refl
 how-many places at (suc n) = ap suc (how-many places (at + 1) n)
+
+-- the code at each place is the list's
+pub code-at : (places : List ℕ) (at n i : ℕ) → i < n → codeAtPlace places (at + i) ≡ getD (codesFrom places at n) i code.Nul
+code-at places at zero i less = absurd (not-suc-le-zero less)
+code-at places at (suc n) zero less =
+    let here : at + 0 ≡ at = omega arith in
+    ap (codeAtPlace places) here
+code-at places at (suc n) (suc i) less =
+    let on : at + suc i ≡ at + 1 + i = omega arith in
+    ap (codeAtPlace places) on ∙ code-at places (at + 1) n i (omega arith)
 
 -- a place is the same place 64 further on
 pub over-the-seam : (places : List ℕ) (at n : ℕ) → codesFrom places (at % 64) n ≡ codesFrom places at n

@@ -1,46 +1,28 @@
 -- Every pop of a queue that is not empty makes progress: twice the waiting codes plus the held one falls. So a queue of
 -- n codes is empty after at most 2 n pops.
 -- Assumes nothing.
-use mathlib.Core.Bool.{Bool, true, false}
 use mathlib.Core.List.{List, [], _∷_}
 use mathlib.Core.Option.{Option, none, some}
 use mathlib.Core.Path.{_≡_, refl}
 use Prim.Native.Nat.{ℕ, zero, suc, _*_, _≤_, _<_}
 use native.Mathlib.Decide.{decLt}
 use native.Mathlib.Omega.{arith}
-use lib.ListN.{length}
-use Rattle.code.specs.Code.{needsBackspace}
 use Rattle.code.specs.declared.code.Code.{Code}
+use Rattle.queue.proofs.Ways.{Way, held-code, nothing-inside, last-code, two-codes, before-command, space-first, command-goes, way-of}
 use Rattle.queue.specs.Progress.{popTimes, work}
-use Rattle.queue.specs.Queue.{Pop, Queued, count, isSingle, pop, popCommand, popHeld, popSingle, popTwo, popWaiting, queued}
+use Rattle.queue.specs.Queue.{Pop, Queued, count, pop, popHeld, queued}
 
-abbrev Less : Pop → ℕ → Type 0
-Less p n = work (p .next) < n
-
-command-less : (x : Code) (rest : List Code) (t : Bool) → needsBackspace x ≡ t → Less (popCommand x rest) (2 * suc (length rest))
-command-less x rest true e = rw e (omega arith)
-command-less x rest false e = rw e (omega arith)
-
-two-less : (x y : Code) (rest : List Code) (t : Bool) → isSingle y ≡ t → Less (popTwo x y rest) (2 * suc (suc (length rest)))
-two-less x y rest true e = rw e (omega arith)
-two-less x y rest false e = rw e (omega arith)
-
-single-less : (x : Code) (rest : List Code) → Less (popSingle x rest) (2 * suc (length rest))
-single-less x [] = omega arith
-single-less x (y ∷ rest) = two-less x y rest (isSingle y) refl
-
-waiting-less : (x : Code) (rest : List Code) (t : Bool) → isSingle x ≡ t → Less (popWaiting (x ∷ rest)) (2 * suc (length rest))
-waiting-less x rest true e = rw e (single-less x rest)
-waiting-less x rest false e = rw e (command-less x rest (needsBackspace x) refl)
-
-held-less : (h : Option Code) (l : List Code) → 0 < count (queued l h) → Less (popHeld h l) (work (queued l h))
-held-less (some c) l more = omega arith
-held-less none [] more = omega arith
-held-less none (x ∷ rest) more = omega (arith, waiting-less x rest (isSingle x) refl)
+less : {v : Queued} {p : Pop} → Way v p → 0 < count v → work (p .next) < work v
+less (held-code c l) more = omega arith
+less nothing-inside more = omega arith
+less (last-code x e) more = omega arith
+less (two-codes x y l e next) more = omega arith
+less (before-command x y l e next) more = omega arith
+less (space-first x l e wants) more = omega arith
+less (command-goes x l e wants) more = omega arith
 
 pub pop-makes-progress : (v : Queued) → 0 < count v → work (pop v .next) < work v
-unfolding pop
-pop-makes-progress v more = held-less (v .held) (v .waiting) more
+pop-makes-progress v more = less (way-of v) more
 
 pub empty-stays : (v : Queued) → count v ≡ 0 → count (pop v .next) ≡ 0
 unfolding pop

@@ -5,21 +5,22 @@ use mathlib.Core.Bool.{Bool, true, false, cond}
 use mathlib.Core.List.{List, [], _∷_, _++_}
 use mathlib.Core.Option.{Option, Option·map, Option·none-ne-some, Option·some-injective, none, some}
 use mathlib.Core.Path.{_≡_, refl, ap, ap₂, sym, subst, _∙_}
-use Prim.Native.Nat.{ℕ, zero, suc, _+_, _-_, _<_}
+use Prim.Native.Nat.{ℕ, suc, _+_, _-_, _<_}
 use native.Mathlib.Omega.{arith}
-use lib.ListN.{drop, length, length-set}
-use Rattle.code.specs.Code.{needsBackspace}
+use lib.ListN.{drop, getD, length, length-set}
 use Rattle.code.specs.Outcome.{Outcome, answer, refused}
 use Rattle.code.specs.declared.code.Code.{Code}
+use Rattle.code.specs.declared.code.Code.the-variants as code
 use Rattle.code.specs.declared.pair.Pair.{Pair}
 use Rattle.queue.proofs.Fit.{pop-fits, push-fits}
-use Rattle.queue.proofs.Places.{freed-in-front, how-many, over-the-seam, stored-behind}
+use Rattle.queue.proofs.Places.{code-at, freed-in-front, how-many, over-the-seam, stored-behind}
 use Rattle.queue.proofs.Numbered.{gives-the-code-back}
+use Rattle.queue.proofs.Ways.{Way, held-code, nothing-inside, last-code, two-codes, before-command, space-first, command-goes, way-of}
 use Rattle.queue.proofs.WellFormed.{formed, stored-has-room, stored-may-wait, well-formed}
 use Rattle.queue.specs.Good.{Fit, Good, seen}
 use Rattle.queue.specs.Number.{codeOf, numberOf}
-use Rattle.queue.specs.Queue.{Pop, Queued, admit, count, entered, isSingle, mayWait, pop, popCommand, popHeld, popSingle, popTwo, popWaiting, push, queued}
-use Rattle.queue.specs.Ring.{codeAtPlace, codesFrom, countRing, freshRing, gone, heldAs, heldIn, leftIn, numberAt, popRing, pushRing, stored, storedAs, view, waitingIn, wellFormed}
+use Rattle.queue.specs.Queue.{Pop, Queued, admit, count, entered, mayWait, pop, push, queued}
+use Rattle.queue.specs.Ring.{countRing, freshRing, gone, heldAs, heldIn, leftIn, numberAt, popRing, pushRing, stored, storedAs, view, waitingIn, wellFormed}
 use Rattle.queue.specs.declared.ring.Queue.{Queue}
 
 -- the list of a well-formed ring, and back
@@ -96,9 +97,6 @@ push-good q c g =
     fits
 
 -- a pop takes codes off the front of those that wait
-abbrev Drops : List Code → Pop → Type 0
-Drops l p = drop (length l - length (p .next .waiting)) l ≡ p .next .waiting
-
 drops-none : (l : List Code) → drop (length l - length l) l ≡ l
 drops-none l =
     let none-gone : length l - length l ≡ 0 = omega arith in
@@ -114,72 +112,43 @@ drops-two x y l =
     let two-gone : suc (suc (length l)) - length l ≡ 2 = omega arith in
     ap (λ (n : ℕ). drop n (x ∷ y ∷ l)) two-gone
 
-command-drops : (x : Code) (rest : List Code) (t : Bool) → needsBackspace x ≡ t → Drops (x ∷ rest) (popCommand x rest)
-command-drops x rest true e = rw e (drops-one x rest)
-command-drops x rest false e = rw e (drops-one x rest)
+drops : {v : Queued} {p : Pop} → Way v p → drop (length (v .waiting) - length (p .next .waiting)) (v .waiting) ≡ p .next .waiting
+drops (held-code c l) = drops-none l
+drops nothing-inside = drops-none []
+drops (last-code x e) = drops-one x []
+drops (two-codes x y l e next) = drops-two x y l
+drops (before-command x y l e next) = drops-two x y l
+drops (space-first x l e wants) = drops-one x l
+drops (command-goes x l e wants) = drops-one x l
 
-two-drop : (x y : Code) (rest : List Code) (t : Bool) → isSingle y ≡ t → Drops (x ∷ y ∷ rest) (popTwo x y rest)
-two-drop x y rest true e = rw e (drops-two x y rest)
-two-drop x y rest false e = rw e (drops-two x y rest)
+-- and a code that it then holds is the last of them, by whatever numbers they are kept
+holds-at : (numbers : ℕ → ℕ) (c : Code) (n k : ℕ) → n ≡ k → codeOf (numbers k) ≡ c → some (codeOf (numbers n)) ≡ some c
+holds-at numbers c n k e back = ap (λ (i : ℕ). some (codeOf (numbers i))) e ∙ ap some back
 
-single-drops : (x : Code) (rest : List Code) → Drops (x ∷ rest) (popSingle x rest)
-single-drops x [] = drops-one x []
-single-drops x (y ∷ rest) = two-drop x y rest (isSingle y) refl
+abbrev Stand : (ℕ → ℕ) → List Code → Type 0
+Stand numbers l = (i : ℕ) → i < length l → codeOf (numbers i) ≡ getD l i code.Nul
 
-waiting-drops : (x : Code) (rest : List Code) (t : Bool) → isSingle x ≡ t → Drops (x ∷ rest) (popWaiting (x ∷ rest))
-waiting-drops x rest true e = rw e (single-drops x rest)
-waiting-drops x rest false e = rw e (command-drops x rest (needsBackspace x) refl)
-
-held-drops : (h : Option Code) (l : List Code) → Drops l (popHeld h l)
-held-drops (some c) l = drops-none l
-held-drops none [] = drops-none []
-held-drops none (x ∷ rest) = waiting-drops x rest (isSingle x) refl
-
-pub pop-drops : (v : Queued) → Drops (v .waiting) (pop v)
-unfolding pop
-pop-drops v = held-drops (v .held) (v .waiting)
-
--- and a code that it then holds is the last of them
-abbrev Keeps : (ℕ → ℕ) → List Code → Pop → Type 0
-Keeps numbers l p = heldIn (heldAs (numbers (length l - length (p .next .waiting) - 1)) (p .next .held)) ≡ p .next .held
-
-keeps-at : (numbers : ℕ → ℕ) (c : Code) (n k : ℕ) → n ≡ k → codeOf (numbers k) ≡ c → some (codeOf (numbers n)) ≡ some c
-keeps-at numbers c n k e back = ap (λ (i : ℕ). some (codeOf (numbers i))) e ∙ ap some back
-
-command-keeps : (numbers : ℕ → ℕ) (x : Code) (rest : List Code) (t : Bool) → needsBackspace x ≡ t → codeOf (numbers 0) ≡ x → Keeps numbers (x ∷ rest) (popCommand x rest)
-command-keeps numbers x rest true e first = rw e (keeps-at numbers x (suc (length rest) - length rest - 1) 0 (omega arith) first)
-command-keeps numbers x rest false e first = rw e refl
-
-two-keep : (numbers : ℕ → ℕ) (x y : Code) (rest : List Code) (t : Bool) → isSingle y ≡ t → codeOf (numbers 1) ≡ y → Keeps numbers (x ∷ y ∷ rest) (popTwo x y rest)
-two-keep numbers x y rest true e second = rw e refl
-two-keep numbers x y rest false e second = rw e (keeps-at numbers y (suc (suc (length rest)) - length rest - 1) 1 (omega arith) second)
-
-single-keeps : (numbers : ℕ → ℕ) (places : List ℕ) (at n : ℕ) (x : Code) → codeOf (numbers 1) ≡ codeAtPlace places at → Keeps numbers (x ∷ codesFrom places at n) (popSingle x (codesFrom places at n))
-single-keeps numbers places at zero x second = refl
-single-keeps numbers places at (suc n) x second =
-    two-keep numbers x (codeAtPlace places at) (codesFrom places (at + 1) n) (isSingle (codeAtPlace places at)) refl second
-
-waiting-keeps : (numbers : ℕ → ℕ) (places : List ℕ) (at n : ℕ) (x : Code) (t : Bool) → isSingle x ≡ t → codeOf (numbers 0) ≡ x → codeOf (numbers 1) ≡ codeAtPlace places at → Keeps numbers (x ∷ codesFrom places at n) (popWaiting (x ∷ codesFrom places at n))
-waiting-keeps numbers places at n x true e first second = rw e (single-keeps numbers places at n x second)
-waiting-keeps numbers places at n x false e first second =
-    rw e (command-keeps numbers x (codesFrom places at n) (needsBackspace x) refl first)
-
-held-keeps : (h : Option Code) (places : List ℕ) (at n : ℕ) → Keeps (λ (k : ℕ). numberAt places (at + k)) (codesFrom places at n) (popHeld h (codesFrom places at n))
-held-keeps (some c) places at n = refl
-held-keeps none places at zero = refl
-held-keeps none places at (suc n) =
-    let here : at + 0 ≡ at = omega arith in
-    waiting-keeps (λ (k : ℕ). numberAt places (at + k)) places (at + 1) n (codeAtPlace places at) (isSingle (codeAtPlace places at)) refl (ap (codeAtPlace places) here) refl
+holds-last : {v : Queued} {p : Pop} (numbers : ℕ → ℕ) → Way v p → Stand numbers (v .waiting) → heldIn (heldAs (numbers (length (v .waiting) - length (p .next .waiting) - 1)) (p .next .held)) ≡ p .next .held
+holds-last numbers (held-code c l) stand = refl
+holds-last numbers nothing-inside stand = refl
+holds-last numbers (last-code x e) stand = refl
+holds-last numbers (two-codes x y l e next) stand = refl
+holds-last numbers (before-command x y l e next) stand =
+    holds-at numbers y (suc (suc (length l)) - length l - 1) 1 (omega arith) (stand 1 (omega arith))
+holds-last numbers (space-first x l e wants) stand =
+    holds-at numbers x (suc (length l) - length l - 1) 0 (omega arith) (stand 0 (omega arith))
+holds-last numbers (command-goes x l e wants) stand = refl
 
 pub pop-keeps-the-number : (q : Queue) → heldIn (leftIn q .held) ≡ pop (view q) .next .held
-unfolding pop
-pop-keeps-the-number q = held-keeps (heldIn (q .held)) (q .places) (q .start) (q .waiting)
+pop-keeps-the-number q =
+    holds-last (λ (k : ℕ). numberAt (q .places) (q .start + k)) (way-of (view q))
+    (λ (i : ℕ) (less : i < length (waitingIn q)). code-at (q .places) (q .start) (q .waiting) i (omega (arith, less, how-many (q .places) (q .start) (q .waiting))))
 
 waiting-left : (q : Queue) → waitingIn (leftIn q) ≡ pop (view q) .next .waiting
 waiting-left q =
     over-the-seam (q .places) (q .start + gone q) (q .waiting - gone q)
     ∙ freed-in-front (q .places) (q .start) (q .waiting) (gone q) (omega (arith, how-many (q .places) (q .start) (q .waiting)))
-    ∙ pop-drops (view q)
+    ∙ drops (way-of (view q))
 
 pub view-of-left : (q : Queue) → view (leftIn q) ≡ pop (view q) .next
 view-of-left q = ap₂ queued (waiting-left q) (pop-keeps-the-number q)

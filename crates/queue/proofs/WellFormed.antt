@@ -58,6 +58,16 @@ unfolding wellFormed
 formed-by-the-rest q =
     no-more (formedBy (q .start) (q .waiting) (q .held)) (allMayWait (waitingIn q)) (all-may-wait (q .places) (q .start) (q .waiting))
 
+-- what may wait or be held may be queued, and what may be held has two bytes
+pub may-queueable : (c : Code) → mayWait c ≡ true → isQueueable c ≡ true
+may-queueable c e = both-right (not (isNul c)) (isQueueable c) e
+
+pub held-queueable : (c : Code) → mayBeHeld c ≡ true → isQueueable c ≡ true
+held-queueable c e = both-right (eqb (byteLen c) 2) (isQueueable c) e
+
+pub held-has-two : (c : Code) → mayBeHeld c ≡ true → eqb (byteLen c) 2 ≡ true
+held-has-two c e = both-left (eqb (byteLen c) 2) (isQueueable c) e
+
 -- a number below 8000 stands for a code that may be held, and no other
 length-two : (c : Code) → eqb (byteLen c) 2 ≡ not (isSingle c)
 length-two code.Nul = refl
@@ -71,7 +81,7 @@ below-or-not a b false e = sym (lt-ltb b a (leb-false a b e))
 
 pub held-told : (n : ℕ) → mayBeHeld (codeOf n) ≡ ltb n 0x8000
 held-told n =
-    no-more (eqb (byteLen (codeOf n)) 2) (isQueueable (codeOf n)) (both-right (not (isNul (codeOf n))) (isQueueable (codeOf n)) (every-number-may-wait n))
+    no-more (eqb (byteLen (codeOf n)) 2) (isQueueable (codeOf n)) (may-queueable (codeOf n) (every-number-may-wait n))
     ∙ length-two (codeOf n)
     ∙ ap not (length-told n)
     ∙ below-or-not 0x8000 n (leb 0x8000 n) refl

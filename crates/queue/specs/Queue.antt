@@ -82,7 +82,7 @@ pub record Pop : Type 0 where
   pub took : List Code
   pub next : Queued
 
-abbrev popOf : Pair → List Code → List Code → Option Code → Pop
+abbrev pub popOf : Pair → List Code → List Code → Option Code → Pop
 popOf p took waiting held = record { pair = p; took = took; next = queued waiting held }
 
 -- the pair that a code is written as; what may wait or be held can be written, so padding stands for none

@@ -1,8 +1,10 @@
 pub mod Answers
 pub mod AnyState
 pub mod DrainedBytes
+pub mod DrainedSends
 pub mod ExactlySoMany
 pub mod Filling
+pub mod FirstByte
 pub mod FirstInFirstOut
 pub mod IllFormed
 pub mod InCalls

@@ -3,7 +3,7 @@
 use borrow.Author.Needs.{needs}
 use mathlib.Core.Path.{ap, _∙_}
 use Rattle.code.specs.Read.{isCommand}
-use Rattle.queue.proofs.FirstByte.{below, not-below}
+use Rattle.sender.proofs.FirstByte.{below, not-below}
 use Rattle.sender.proofs.well_formed.is_command.Statement.{statement}
 use Rattle.sender.proofs.well_formed.is_command.Tie as tie
 
