@@ -22,7 +22,7 @@ use Rattle.agreement.specs.Doubled.{doubled}
 use Rattle.agreement.specs.OneByOne.{AllOdd}
 use Rattle.sender.specs.Calls.{Call, noReset, senderAfter}
 use Rattle.sender.specs.Sender.{freshSender, view}
-use Rattle.sender.specs.Sending.{noneOwed, stillOwed}
+use Rattle.sender.specs.Sending.{isAbsent, noneOwed, owedPairs}
 use Rattle.sender.specs.declared.sender.Owed.{Owed}
 use Rattle.sender.specs.declared.sender.Owed.the-variants as owed
 
@@ -40,7 +40,7 @@ odd-pairs-agree ps arrived odd line =
       refuses-by-1 = refusals-are-by-1 arrived fresh;
     }
 
-nothing-owed : (o : Owed) → noneOwed o ≡ true → stillOwed o ≡ []
+nothing-owed : (o : Owed) → isAbsent o ≡ true → owedPairs o ≡ []
 nothing-owed owed.Absent e = refl
 nothing-owed (owed.Repeat p) e = absurd (true≢false (sym e))
 
@@ -49,7 +49,7 @@ pub sent-once-idle : (calls : List Call) → noReset calls ≡ true → EndsIdle
 sent-once-idle calls no-reset idle =
     let end = view (senderAfter calls freshSender) in
     let is-idle = said-idle (senderAfter calls freshSender) (calls-stay-good calls freshSender fresh-good) idle in
-    let none-left = nothing-owed (end .repeats .owed) (both-right (eqb (count (end .queue)) 0) (noneOwed (end .repeats .owed)) is-idle) in
+    let none-left = nothing-owed (end .repeats .owed) (both-right (eqb (count (end .queue)) 0) (noneOwed (end .repeats)) is-idle) in
     sym (append-nil (sentBy calls freshSender))
     ∙ ap (λ (l : List Pair). sentBy calls freshSender ++ l) (sym none-left)
     ∙ sent-is-doubled calls freshSender fresh-good no-reset

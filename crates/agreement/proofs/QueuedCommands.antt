@@ -22,15 +22,13 @@ use Rattle.queue.specs.Ring as queue
 use Rattle.queue.specs.declared.ring.Queue.{Queue}
 use Rattle.sender.proofs.FirstInFirstOut.{first-in-first-out, sender-of-history, taken-by-sends}
 use Rattle.sender.proofs.InCalls.{holds-in-calls, part-in-calls}
-use Rattle.sender.proofs.Order.{a-drain-is-sends, a-send-is-one, call-stays-good, count-same, idle-same}
+use Rattle.sender.proofs.Order.{a-drain-is-sends, a-send-is-one, call-stays-good, count-same, idle-same, taken-is}
 use Rattle.sender.proofs.Refines.{fresh-good, popped-view, push-refines, queue-formed, send-good, send-refines}
 use Rattle.sender.specs.Calls.{Call, pushing, sending, draining, counting, asking, resetting, begun, inSends, isReset, noReset, onSender, recordedAll, senderAfter, sendsBy, takenBy}
 use Rattle.sender.specs.Drain.{sendSenderTimes}
 use Rattle.sender.specs.Good.{Good}
 use Rattle.sender.specs.Sender.{freshSender, sendSender, view}
-use Rattle.sender.specs.Sending.{Sending, send, sendOwed}
-use Rattle.sender.specs.declared.sender.Owed.{Owed}
-use Rattle.sender.specs.declared.sender.Owed.the-variants as owed
+use Rattle.sender.specs.Sending.{Sending, Source, ahead, pops, send, sendFrom, source}
 use Rattle.sender.specs.declared.sender.Sender.{Sender}
 use Rattle.agreement.proofs.Doubled.{all-of-both, pair-of-queue, sent-is-doubled}
 use Rattle.agreement.specs.Agreement.{All, given, fromQueue, queuePair, queuePairs}
@@ -46,28 +44,28 @@ pair-packed : (o : Outcome Pair) (taken : List Code) (left : Queued) → pairsIn
 pair-packed (answer p) taken left = refl
 pair-packed (refused n) taken left = refl
 
-pair-of-send : (o : Owed) (q : Queue) → pairsIn (packedBy o q) ≡ fromQueue o q
-pair-of-send (owed.Repeat p) q = refl
-pair-of-send owed.Absent q = pair-packed (popRing q .0) (of-queue.takenBy q) (queue.view (popRing q .1))
+pair-of-send : (o : Source) (q : Queue) → pairsIn (packedBy o q) ≡ fromQueue o q
+pair-of-send (ahead p) q = refl
+pair-of-send pops q = pair-packed (popRing q .0) (of-queue.takenBy q) (queue.view (popRing q .1))
 
 pairs-are-the-queues : (calls : List Call) (s : Sender) → Good s → pairsIn (packed calls s) ≡ queuePairs calls s
 pairs-are-the-queues calls s g =
     part-in-calls packedPair queuePair pairsIn refl pairs-by-parts
-    (λ (r : Sender) (good : Good r). pair-of-send (r .repeats .owed) (r .queue)) calls s g
+    (λ (r : Sender) (good : Good r). pair-of-send (source (view r)) (r .queue)) calls s g
 
 -- a pop of a well-formed queue makes one pair, of what it takes and what it leaves
 abbrev packedPop : Queue → Packed
 packedPop q = let p = pop (queue.view q) in record { pair = p .pair; codes = p .took; left = p .next }
 
-one-packed : (q : Queue) → queue.wellFormed q ≡ true → packedBy owed.Absent q ≡ packedPop q ∷ []
+one-packed : (q : Queue) → queue.wellFormed q ≡ true → packedBy pops q ≡ packedPop q ∷ []
 one-packed q formed =
     ap₂ (λ (l : List Code) (o : Outcome Pair). packedOf o l (queue.view (popRing q .1)))
     (ap (λ (t : Bool). cond t (pop (queue.view q) .took) []) formed) (pair-of-queue q formed)
     ∙ ap (packedOf (answer (pop (queue.view q) .pair)) (pop (queue.view q) .took)) (popped-view q formed)
 
-send-well-packed : (o : Owed) (q : Queue) → queue.wellFormed q ≡ true → All WellPacked (packedBy o q)
-send-well-packed (owed.Repeat p) q formed = tt
-send-well-packed owed.Absent q formed =
+send-well-packed : (o : Source) (q : Queue) → queue.wellFormed q ≡ true → All WellPacked (packedBy o q)
+send-well-packed (ahead p) q formed = tt
+send-well-packed pops q formed =
     let fits = good-fits q formed in
     rw (one-packed q formed)
     (record { is-made-of = made-of (queue.view q) fits; command = popped-is-a-command (queue.view q) fits }, tt)
@@ -75,7 +73,7 @@ send-well-packed owed.Absent q formed =
 all-well-packed : (calls : List Call) (s : Sender) → Good s → All WellPacked (packed calls s)
 all-well-packed calls s g =
     holds-in-calls packedPair (All WellPacked) tt (all-of-both WellPacked)
-    (λ (r : Sender) (good : Good r). send-well-packed (r .repeats .owed) (r .queue) (queue-formed r (good .formed))) calls s g
+    (λ (r : Sender) (good : Good r). send-well-packed (source (view r)) (r .queue) (queue-formed r (good .formed))) calls s g
 
 -- what is held goes from part to part
 held-by-parts : (before middle after : Option Code) (ms ns : List Packed) → HeldNext before ms middle → HeldNext middle ns after → HeldNext before (ms ++ ns) after
@@ -83,25 +81,26 @@ held-by-parts before middle after [] ns first second = subst (λ (h : Option Cod
 held-by-parts before middle after (m ∷ ms) ns first second =
     (first .0, held-by-parts (m .left .held) middle after ms ns (first .1) second)
 
-abbrev heldIn : Sender → Option Code
-heldIn s = view s .queue .held
+-- the held code of a sender
+abbrev heldBy : Sender → Option Code
+heldBy s = view s .queue .held
 
--- of one send: an owed repeat leaves the queue as it is
-held-by-owed : (o : Owed) (q : Queue) → queue.wellFormed q ≡ true → HeldNext (queue.view q .held) (packedBy o q) (sendOwed o (queue.view q) .next .queue .held)
-held-by-owed (owed.Repeat p) q formed = refl
-held-by-owed owed.Absent q formed = rw (one-packed q formed) (after-held (queue.view q), refl)
+-- of one send: a pair that goes ahead leaves the queue as it is
+held-by-source : (o : Source) (q : Queue) → queue.wellFormed q ≡ true → HeldNext (queue.view q .held) (packedBy o q) (sendFrom o (queue.view q) .next .queue .held)
+held-by-source (ahead p) q formed = refl
+held-by-source pops q formed = rw (one-packed q formed) (after-held (queue.view q), refl)
 
-held-by-send : (s : Sender) → Good s → HeldNext (heldIn s) (packedPair s) (heldIn (sendSender s .1))
+held-by-send : (s : Sender) → Good s → HeldNext (heldBy s) (packedPair s) (heldBy (sendSender s .1))
 unfolding send
 held-by-send s g =
-    subst (λ (v : Sending). HeldNext (heldIn s) (packedPair s) (v .queue .held)) (sym (send-refines s g .1))
-    (held-by-owed (s .repeats .owed) (s .queue) (queue-formed s (g .formed)))
+    subst (λ (v : Sending). HeldNext (heldBy s) (packedPair s) (v .queue .held)) (sym (send-refines s g .1))
+    (held-by-source (source (view s)) (s .queue) (queue-formed s (g .formed)))
 
-held-by-sends : (n : ℕ) (s : Sender) → Good s → HeldNext (heldIn s) (inSends packedPair n s) (heldIn (sendSenderTimes n s))
+held-by-sends : (n : ℕ) (s : Sender) → Good s → HeldNext (heldBy s) (inSends packedPair n s) (heldBy (sendSenderTimes n s))
 held-by-sends zero s g = refl
 held-by-sends (suc n) s g =
     let next = sendSender s .1 in
-    held-by-parts (heldIn s) (heldIn next) _ (packedPair s) (inSends packedPair n next)
+    held-by-parts (heldBy s) (heldBy next) _ (packedPair s) (inSends packedPair n next)
     (held-by-send s g) (held-by-sends n next (send-good s g))
 
 -- what is held after a call is what is held after its sends: a push leaves it
@@ -110,24 +109,24 @@ entered-holds (answer true) more same e = e
 entered-holds (answer false) more same e = refl
 entered-holds (refused n) more same e = refl
 
-call-holds : (c : Call) (s : Sender) → Good s → not (isReset c) ≡ true → heldIn (onSender c s .1) ≡ heldIn (sendSenderTimes (sendsBy (onSender c s .0)) s)
+call-holds : (c : Call) (s : Sender) → Good s → not (isReset c) ≡ true → heldBy (onSender c s .1) ≡ heldBy (sendSenderTimes (sendsBy (onSender c s .0)) s)
 call-holds (pushing x) s g stays =
     ap (λ (v : Sending). v .queue .held) (push-refines s x g .1)
     ∙ entered-holds (admit x (length (view s .queue .waiting))) _ (view s .queue) refl
-call-holds sending s g stays = ap heldIn (a-send-is-one s g)
-call-holds (draining out start limit) s g stays = ap heldIn (a-drain-is-sends s out start limit g)
-call-holds counting s g stays = ap heldIn (count-same s g)
-call-holds asking s g stays = ap heldIn (idle-same s g)
+call-holds sending s g stays = ap heldBy (a-send-is-one s g)
+call-holds (draining out start limit) s g stays = ap heldBy (a-drain-is-sends s out start limit g)
+call-holds counting s g stays = ap heldBy (count-same s g)
+call-holds asking s g stays = ap heldBy (idle-same s g)
 call-holds resetting s g stays = absurd (true≢false (sym stays))
 
 -- so a held command is the next pair, whatever calls are between
-held-by-calls : (calls : List Call) (s : Sender) → Good s → noReset calls ≡ true → HeldNext (heldIn s) (packed calls s) (heldIn (senderAfter calls s))
+held-by-calls : (calls : List Call) (s : Sender) → Good s → noReset calls ≡ true → HeldNext (heldBy s) (packed calls s) (heldBy (senderAfter calls s))
 held-by-calls [] s g stays = refl
 held-by-calls (c ∷ calls) s g stays =
     let next = onSender c s .1 in
     let n = sendsBy (onSender c s .0) in
-    held-by-parts (heldIn s) (heldIn next) _ (inSends packedPair n s) (packed calls next)
-    (subst (HeldNext (heldIn s) (inSends packedPair n s)) (sym (call-holds c s g (both-left (not (isReset c)) (noReset calls) stays))) (held-by-sends n s g))
+    held-by-parts (heldBy s) (heldBy next) _ (inSends packedPair n s) (packed calls next)
+    (subst (HeldNext (heldBy s) (inSends packedPair n s)) (sym (call-holds c s g (both-left (not (isReset c)) (noReset calls) stays))) (held-by-sends n s g))
     (held-by-calls calls next (call-stays-good c s g) (both-right (not (isReset c)) (noReset calls) stays))
 
 -- their codes are those that the sends took
@@ -136,13 +135,13 @@ codes-by-parts [] ns = refl
 codes-by-parts (m ∷ ms) ns =
     ap (λ (l : List Code). m .codes ++ l) (codes-by-parts ms ns) ∙ sym (append-assoc (m .codes) (codesIn ms) (codesIn ns))
 
-codes-of-send : (o : Owed) (q : Queue) → queue.wellFormed q ≡ true → codesIn (packedBy o q) ≡ sendOwed o (queue.view q) .took
-codes-of-send (owed.Repeat p) q formed = refl
-codes-of-send owed.Absent q formed = ap codesIn (one-packed q formed) ∙ append-nil (pop (queue.view q) .took)
+codes-of-send : (o : Source) (q : Queue) → queue.wellFormed q ≡ true → codesIn (packedBy o q) ≡ sendFrom o (queue.view q) .took
+codes-of-send (ahead p) q formed = refl
+codes-of-send pops q formed = ap codesIn (one-packed q formed) ∙ append-nil (pop (queue.view q) .took)
 
 codes-of-one : (s : Sender) → Good s → codesIn (packedPair s) ≡ takenBy s
 unfolding send
-codes-of-one s g = codes-of-send (s .repeats .owed) (s .queue) (queue-formed s (g .formed))
+codes-of-one s g = codes-of-send (source (view s)) (s .queue) (queue-formed s (g .formed)) ∙ sym (taken-is s g)
 
 -- so they, and those still inside, are what was accepted
 codes-in-order : (calls : List Call) → noReset calls ≡ true → codesIn (packed calls freshSender) ++ inside (view (senderAfter calls freshSender) .queue) ≡ recordedAll calls (begun freshSender) .accepted

@@ -157,9 +157,9 @@ toCome (some c) [] = []
 toCome (some c) (x ∷ codes) = pairOf x ∷ eachAlone codes
 
 -- a held code is the next
-abbrev Next : Option Code → List Code → Type 0
-Next none codes = Unit
-Next (some c) codes = (rest : List Code) × (codes ≡ c ∷ rest)
+abbrev HeldFirst : Option Code → List Code → Type 0
+HeldFirst none codes = Unit
+HeldFirst (some c) codes = (rest : List Code) × (codes ≡ c ∷ rest)
 
 written-as : (x : Code) (p : Pair) (n : ℕ) → writeCode x ≡ answer (p, n) → pairOf x ≡ p
 unfolding pairOf
@@ -194,13 +194,13 @@ whole-after x codes whole = both-right (not (isHalfCommand x)) (noHalfCommand co
 
 module _ (ps : List Pair) (codes : List Code) where
   -- the space before a command that is now held
-  space-out : (c : Code) → needsBackspace c ≡ true → Next (some c) codes → eachAlone codes ≡ spaceAlone ∷ toCome (some c) codes
+  space-out : (c : Code) → needsBackspace c ≡ true → HeldFirst (some c) codes → eachAlone codes ≡ spaceAlone ∷ toCome (some c) codes
   space-out c needs (rest, is) = rw is (rw needs refl)
 
-  none-out : (c : Code) → needsBackspace c ≡ false → Next (some c) codes → eachAlone codes ≡ toCome (some c) codes
+  none-out : (c : Code) → needsBackspace c ≡ false → HeldFirst (some c) codes → eachAlone codes ≡ toCome (some c) codes
   none-out c needs (rest, is) = rw is (rw needs refl)
 
-  single-shown : (c : Code) (a : ℕ) (t : Bool) → needsBackspace c ≡ t → TextByte a → Next (some c) codes → Alike ps (toCome (some c) codes) → Alike (pair a (cond t 0x20 0x80) ∷ ps) (pair a 0x80 ∷ eachAlone codes)
+  single-shown : (c : Code) (a : ℕ) (t : Bool) → needsBackspace c ≡ t → TextByte a → HeldFirst (some c) codes → Alike ps (toCome (some c) codes) → Alike (pair a (cond t 0x20 0x80) ∷ ps) (pair a 0x80 ∷ eachAlone codes)
   single-shown c a true needs text next go =
       subst (λ (l : List Pair). Alike (pair a 0x20 ∷ ps) (pair a 0x80 ∷ l)) (sym (space-out c needs next))
       (two-texts a 0x20 ps (toCome (some c) codes) text space-is-text go)
@@ -209,7 +209,7 @@ module _ (ps : List Pair) (codes : List Code) where
       (same-first (pair a 0x80) ps (toCome (some c) codes) go)
 
   -- a pair shows what its codes show, and the space before the command that is then held
-  by-made : (before : Option Code) {p : Pair} {taken : List Code} {left : Queued} → MadeOf p taken left → AfterHeld before taken → noHalfCommand (taken ++ codes) ≡ true → Next (left .held) codes → Alike ps (toCome (left .held) codes) → Alike (p ∷ ps) (toCome before (taken ++ codes))
+  by-made : (before : Option Code) {p : Pair} {taken : List Code} {left : Queued} → MadeOf p taken left → AfterHeld before taken → noHalfCommand (taken ++ codes) ≡ true → HeldFirst (left .held) codes → Alike ps (toCome (left .held) codes) → Alike (p ∷ ps) (toCome before (taken ++ codes))
   by-made none nothing-to-send after whole next go = padding-first ps (eachAlone codes) go
   by-made (some d) nothing-to-send after whole next go = absurd (omega (arith, ap length after))
   by-made none (space-before c rest needs) after whole next go =
@@ -233,7 +233,7 @@ module _ (ps : List Pair) (codes : List Code) where
       subst (Alike (p ∷ ps)) (sym (first-as before c p 2 [] codes written after)) (same-first p ps (eachAlone codes) go)
 
 -- so do all of them, where nothing is held at the end
-held-next : (h : Option Code) (ms : List Packed) → HeldNext h ms none → Next h (codesIn ms)
+held-next : (h : Option Code) (ms : List Packed) → HeldNext h ms none → HeldFirst h (codesIn ms)
 held-next none ms held = tt
 held-next (some c) [] held = absurd (Option·none-ne-some c (sym held))
 held-next (some c) (m ∷ ms) held = (codesIn ms, ap (λ (l : List Code). l ++ codesIn ms) (held .0))
@@ -269,7 +269,7 @@ none-left : (calls : List Call) → EndsIdle calls → count (view (senderAfter 
 none-left calls idle =
     let end = view (senderAfter calls freshSender) in
     let is-idle = said-idle (senderAfter calls freshSender) (calls-stay-good calls freshSender fresh-good) idle in
-    eqb-true (count (end .queue)) 0 (both-left (eqb (count (end .queue)) 0) (noneOwed (end .repeats .owed)) is-idle)
+    eqb-true (count (end .queue)) 0 (both-left (eqb (count (end .queue)) 0) (noneOwed (end .repeats)) is-idle)
 
 -- so the queue's pairs show what the accepted codes show, each sent alone
 pub queue-shows-its-codes : (calls : List Call) → WholeRun calls → Alike (queuePairs calls freshSender) (eachAlone (acceptedIn calls))

@@ -17,9 +17,8 @@ use Rattle.receiver.specs.Reading.{after, afterOnce, answers, events, readOnce}
 use Rattle.receiver.specs.Receiver.{fresh}
 use Rattle.sender.specs.Calls.{Call, pushing, sending, draining, counting, asking, resetting, inCalls, noReset, onSender, senderAfter, sendsIn}
 use Rattle.sender.specs.Drain.{drainSender, pairsFrom}
-use Rattle.sender.specs.Sender.{freshSender, idleSender, sendSender}
-use Rattle.sender.specs.declared.sender.Owed.{Owed}
-use Rattle.sender.specs.declared.sender.Owed.the-variants as owed
+use Rattle.sender.specs.Sender.{freshSender, idleSender, sendSender, view}
+use Rattle.sender.specs.Sending.{Source, ahead, pops, source}
 use Rattle.sender.specs.declared.sender.Sender.{Sender}
 
 -- "Start with a fresh sender and a fresh receiver, never reset. Queue and send in any order, until nothing is queued and
@@ -47,13 +46,13 @@ abbrev pub sentBy : List Call → Sender → List Pair
 sentBy [] s = []
 sentBy (c ∷ cs) s = sentIn c s ++ sentBy cs (onSender c s .1)
 
--- the queue's pairs: those that it gave, send by send, where no repeat was owed
-abbrev pub fromQueue : Owed → Queue → List Pair
-fromQueue (owed.Repeat p) q = []
-fromQueue owed.Absent q = given (popRing q .0)
+-- the queue's pairs: those that it gave, send by send, where the queue was popped
+abbrev pub fromQueue : Source → Queue → List Pair
+fromQueue (ahead p) q = []
+fromQueue pops q = given (popRing q .0)
 
 abbrev pub queuePair : Sender → List Pair
-queuePair s = fromQueue (s .repeats .owed) (s .queue)
+queuePair s = fromQueue (source (view s)) (s .queue)
 
 abbrev pub queuePairs : List Call → Sender → List Pair
 queuePairs calls s = inCalls queuePair calls s

@@ -16,9 +16,7 @@ use Rattle.queue.specs.Made.{AfterHeld, MadeOf, makesCommand}
 use Rattle.queue.specs.declared.ring.Queue.{Queue}
 use Rattle.sender.specs.Calls.{Call, begun, inCalls, noReset, recordedAll, senderAfter}
 use Rattle.sender.specs.Sender.{freshSender, view}
-use Rattle.sender.specs.Sending.{stillOwed}
-use Rattle.sender.specs.declared.sender.Owed.{Owed}
-use Rattle.sender.specs.declared.sender.Owed.the-variants as owed
+use Rattle.sender.specs.Sending.{Source, ahead, pops, source, stillOwed}
 use Rattle.sender.specs.declared.sender.Sender.{Sender}
 use Rattle.agreement.specs.Agreement.{All, queuePairs, sentBy}
 
@@ -36,12 +34,12 @@ abbrev pub packedOf : Outcome Pair → List Code → Queued → List Packed
 packedOf (answer p) taken left = record { pair = p; codes = taken; left = left } ∷ []
 packedOf (refused n) taken left = []
 
-abbrev pub packedBy : Owed → Queue → List Packed
-packedBy (owed.Repeat p) q = []
-packedBy owed.Absent q = packedOf (popRing q .0) (takenBy q) (ring.view (popRing q .1))
+abbrev pub packedBy : Source → Queue → List Packed
+packedBy (ahead p) q = []
+packedBy pops q = packedOf (popRing q .0) (takenBy q) (ring.view (popRing q .1))
 
 abbrev pub packedPair : Sender → List Packed
-packedPair s = packedBy (s .repeats .owed) (s .queue)
+packedPair s = packedBy (source (view s)) (s .queue)
 
 abbrev pub packed : List Call → Sender → List Packed
 packed calls s = inCalls packedPair calls s
@@ -77,7 +75,7 @@ pub record QueuedCommands (calls : List Call) : Type 0 where
   pub all-codes : codesIn (packed calls freshSender) ++ inside (view (senderAfter calls freshSender) .queue) ≡ acceptedIn calls
   pub well-packed : All WellPacked (packed calls freshSender)
   pub held-is-next : HeldNext none (packed calls freshSender) (view (senderAfter calls freshSender) .queue .held)
-  pub sent-by-codes : sentBy calls freshSender ++ stillOwed (senderAfter calls freshSender .repeats .owed) ≡ sentByCodes (packed calls freshSender)
+  pub sent-by-codes : sentBy calls freshSender ++ stillOwed (senderAfter calls freshSender .repeats) ≡ sentByCodes (packed calls freshSender)
 
 abbrev pub QueuedCommandsLaw : Type 0
 QueuedCommandsLaw = (calls : List Call) → noReset calls ≡ true → QueuedCommands calls

@@ -20,10 +20,10 @@ use Rattle.sender.specs.Sending.{Sending}
 use Rattle.sender.specs.declared.sender.Sender.{Sender}
 
 -- what a call of the sender shows: its reply, and the lists of the state beside it
-abbrev shown : Call → Sender → Reply × Sending
-shown c s = (onSender c s .0, view (onSender c s .1))
+abbrev seen : Call → Sender → Reply × Sending
+seen c s = (onSender c s .0, view (onSender c s .1))
 
-drain-agrees : (s : Sender) (out : List ℕ) (start limit : ℕ) (t : Bool) → ltb (length out) start ≡ t → Good s → shown (draining out start limit) s ≡ drainLists out start limit (view s)
+drain-agrees : (s : Sender) (out : List ℕ) (start limit : ℕ) (t : Bool) → ltb (length out) start ≡ t → Good s → seen (draining out start limit) s ≡ drainLists out start limit (view s)
 unfolding drainSender
 drain-agrees s out start limit true past g = rw (g .formed, past) refl
 drain-agrees s out start limit false past g =
@@ -31,7 +31,7 @@ drain-agrees s out start limit false past g =
     rw (g .formed, past) (ap {B = Reply × Sending} (λ (v : Sending). (drainedTo out start ps (view s) .0, v)) (sends-refine (length ps) s g))
 
 -- one call
-pub call-agrees : (c : Call) (s : Sender) → Good s → shown c s ≡ onLists c (view s)
+pub call-agrees : (c : Call) (s : Sender) → Good s → seen c s ≡ onLists c (view s)
 call-agrees (pushing x) s g =
     ap₂ {C = Reply × Sending} (λ (o : Outcome Unit) (v : Sending). (toPush o, v)) (push-refines s x g .0) (push-refines s x g .1)
 call-agrees sending s g =

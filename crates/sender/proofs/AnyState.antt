@@ -19,7 +19,7 @@ use Rattle.queue.specs.Ring as queue
 use Rattle.queue.specs.declared.ring.Queue.{Queue}
 use Rattle.sender.proofs.Refines.{counts-codes, ill-formed-count, ill-formed-send, queue-formed, repeats-formed, sent-pair}
 use Rattle.sender.specs.Sender.{countSender, owedFits, sendSender, view, wellFormed}
-use Rattle.sender.specs.Sending.{send, sendOwed}
+use Rattle.sender.specs.Sending.{send, sendFrom, sourceBy}
 use Rattle.sender.specs.declared.sender.Owed.{Owed}
 use Rattle.sender.specs.declared.sender.Owed.the-variants as owed
 use Rattle.sender.specs.declared.sender.Sender.{Sender}
@@ -38,7 +38,7 @@ n-codes-at-most-65 s n answered = count-answer s n (wellFormed s) refl answered
 pub odd-of-sent : (p : Pair) → SentPair p → isOddPair p ≡ true
 odd-of-sent p sent = rw (sent .first .odd, sent .second .odd) refl
 
-odd-by-owed : (o : Owed) (q : Queue) → owedFits o ≡ true → queue.wellFormed q ≡ true → isOddPair (sendOwed o (queue.view q) .pair) ≡ true
+odd-by-owed : (o : Owed) (q : Queue) → owedFits o ≡ true → queue.wellFormed q ≡ true → isOddPair (sendFrom (sourceBy o) (queue.view q) .pair) ≡ true
 odd-by-owed (owed.Repeat p) q fits formed = both-left (isOddPair p) (isCommandPair p) fits
 odd-by-owed owed.Absent q fits formed =
     odd-of-sent (pop (queue.view q) .pair) (popped-is-sent (queue.view q) (good-fits q formed))

@@ -1,9 +1,8 @@
 -- What a drain does to the output, byte by byte: as many bytes as before, those of its sends' pairs from the start on, and
--- every other as it was; and how many sends it makes.
+-- every other as it was.
 -- Assumes nothing.
 use mathlib.Core.Bool.{Bool, true, false, cond}
 use mathlib.Core.List.{List, [], _∷_, _++_}
-use mathlib.Core.Logic.{_⊎_, inl, inr, ⊎-elim}
 use mathlib.Core.Path.{_≡_, refl, ap, sym, subst, _∙_}
 use Prim.Native.Nat.{ℕ, zero, suc, _+_, _*_, _-_, _≤_, _<_}
 use native.Mathlib.Omega.{arith}
@@ -14,20 +13,10 @@ use Rattle.code.specs.declared.pair.Pair.{Pair}
 use Rattle.sender.proofs.Lent.{drained-as}
 use Rattle.sender.specs.Drain.{bytesOfPairs, drainSender, drained, drainedPairs, filled, pairsFrom}
 use Rattle.sender.specs.Sender.{view, wellFormed}
-use Rattle.sender.specs.Sending.{Sending, isIdle, send, sendTimes}
+use Rattle.sender.specs.Sending.{Sending, isIdle, send}
 use Rattle.sender.specs.declared.sender.Sender.{Sender}
 
--- it makes no more sends than its limit, and writes no more bytes than there is room for
-pub within-the-limit : (limit room : ℕ) (v : Sending) → length (drainedPairs limit room v) ≤ limit
-within-the-limit zero room v = omega arith
-within-the-limit (suc limit) zero v = omega arith
-within-the-limit (suc limit) (suc zero) v = omega arith
-within-the-limit (suc limit) (suc (suc room)) v = unless-idle (isIdle v) (within-the-limit limit room (send v .next))
-  where
-    unless-idle : (t : Bool) → length (drainedPairs limit room (send v .next)) ≤ limit → length (cond t [] (send v .pair ∷ drainedPairs limit room (send v .next))) ≤ suc limit
-    unless-idle true less = omega arith
-    unless-idle false less = omega (arith, less)
-
+-- it writes no more bytes than there is room for
 pub within-the-room : (limit room : ℕ) (v : Sending) → length (bytesOfPairs (drainedPairs limit room v)) ≤ room
 within-the-room zero room v = omega arith
 within-the-room (suc limit) zero v = omega arith
@@ -85,27 +74,6 @@ module _ (out : List ℕ) (start : ℕ) (ps : List Pair) (inside : start ≤ len
   pairs-in-it =
       ap (pairsFrom (length ps)) (drop-at (take start out) (filled (drop start out) ps) start front)
       ∙ pairs-back ps (drop (length (bytesOfPairs ps)) (drop start out))
-
--- where it stopped: at the limit, with less than a pair of room, or idle
-abbrev pub Stopped : ℕ → ℕ → Sending → List Pair → Type 0
-Stopped limit room v ps =
-    (length ps ≡ limit) ⊎ ((room - length (bytesOfPairs ps) < 2) ⊎ (isIdle (sendTimes (length ps) v) ≡ true))
-
-pub why-it-stopped : (limit room : ℕ) (v : Sending) → Stopped limit room v (drainedPairs limit room v)
-why-it-stopped zero room v = inl refl
-why-it-stopped (suc limit) zero v = inr (inl (omega arith))
-why-it-stopped (suc limit) (suc zero) v = inr (inl (omega arith))
-why-it-stopped (suc limit) (suc (suc room)) v =
-    unless-idle (isIdle v) refl (drainedPairs limit room (send v .next)) (why-it-stopped limit room (send v .next))
-  where
-    unless-idle : (t : Bool) → isIdle v ≡ t → (ps : List Pair) → Stopped limit room (send v .next) ps → Stopped (suc limit) (suc (suc room)) v (cond t [] (send v .pair ∷ ps))
-    unless-idle true e ps later = inr (inr e)
-    unless-idle false e ps later =
-        ⊎-elim (λ (h : length ps ≡ limit). inl (ap suc h))
-        (λ (h : (room - length (bytesOfPairs ps) < 2) ⊎ (isIdle (sendTimes (length ps) (send v .next)) ≡ true)).
-        ⊎-elim (λ (x : room - length (bytesOfPairs ps) < 2). inr (inl (omega (arith, x))))
-        (λ (x : isIdle (sendTimes (length ps) (send v .next)) ≡ true). inr (inr x)) h)
-        later
 
 -- the same of the drain itself, from a well-formed state and with the start inside the output
 module _ (s : Sender) (out : List ℕ) (start limit : ℕ) (formed : wellFormed s ≡ true) (inside : start ≤ length out) where

@@ -10,9 +10,9 @@ use lib.ListN.{drop, length, take}
 use Rattle.code.proofs.LentPart.{lent-part, with-part}
 use Rattle.code.specs.Outcome.{Outcome, answer, refused}
 use Rattle.sender.specs.Drain.{drainSender, drained, drainedPairs}
-use Rattle.sender.specs.Next.{filling, progressOutcome, senderAt}
+use Rattle.sender.specs.Parts.{filling, writingOutcome, senderAt}
 use Rattle.sender.specs.Sender.{view, wellFormed}
-use Rattle.sender.specs.declared.drain.Progress.{Progress}
+use Rattle.sender.specs.declared.drain.Writing.{Writing}
 use Rattle.sender.specs.declared.sender.Sender.{Sender}
 
 -- 12, then 11
@@ -29,7 +29,7 @@ unfolding drainSender
 drained-as s out start limit e inside = rw (e, le-ltb (length out) start inside) refl
 
 -- what the writer of pairs did to the part is what the drain does to the output
-pub lent-part-is-drained : (s : Sender) (out : List ℕ) (start limit : ℕ) (r : Progress) (ys : List ℕ) → wellFormed s ≡ true → start ≤ length out → progressOutcome s r ys ≡ filling s (take (length out - start) (drop start out)) limit → (answer (r .sends), senderAt s r, take start out ++ (ys ++ drop (length out - start) (drop start out))) ≡ drainSender s out start limit
+pub lent-part-is-drained : (s : Sender) (out : List ℕ) (start limit : ℕ) (r : Writing) (ys : List ℕ) → wellFormed s ≡ true → start ≤ length out → writingOutcome s r ys ≡ filling s (take (length out - start) (drop start out)) limit → (answer (r .sends), senderAt s r, take start out ++ (ys ++ drop (length out - start) (drop start out))) ≡ drainSender s out start limit
 lent-part-is-drained s out start limit r ys e inside done =
     ap {B = Outcome ℕ × Sender × List ℕ} (λ (l : List ℕ). (answer (r .sends), senderAt s r, l)) (with-part out start ys)
     ∙ ap {B = Outcome ℕ × Sender × List ℕ} (λ (x : ℕ × Sender × List ℕ). (answer (x .0), x .1, take start out ++ x .2)) (done ∙ ap (λ (l : List ℕ). filling s l limit) (lent-part out start))

@@ -13,9 +13,9 @@ use Rattle.queue.specs.Queue.{heldCodes}
 use Rattle.queue.specs.Ring.{heldIn}
 use Rattle.queue.specs.declared.ring.Held.{Held}
 use Rattle.queue.specs.declared.ring.Held.the-variants as held
-use Rattle.sender.specs.Next.{noneHeld, nothingLeft}
+use Rattle.sender.specs.Parts.{noneHeld, nothingLeft}
 use Rattle.sender.specs.Sender.{view}
-use Rattle.sender.specs.Sending.{isIdle, noneOwed}
+use Rattle.sender.specs.Sending.{isAbsent, isIdle, noneOwed}
 use Rattle.sender.specs.declared.sender.Owed.{Owed}
 use Rattle.sender.specs.declared.sender.Repeats.{Repeats}
 use Rattle.sender.specs.declared.sender.Sender.{Sender}
@@ -30,8 +30,8 @@ no-codes (suc n) h =
 
 pub idle-by-parts : (s : Sender) → isIdle (view s) ≡ nothingLeft (s .queue .waiting) (s .queue .held) (s .repeats)
 idle-by-parts s =
-    ap (λ (n : ℕ). eqb (n + length (heldCodes (heldIn (s .queue .held)))) 0 && noneOwed (s .repeats .owed)) (how-many (s .queue .places) (s .queue .start) (s .queue .waiting))
-    ∙ ap (λ (t : Bool). t && noneOwed (s .repeats .owed)) (no-codes (s .queue .waiting) (s .queue .held))
+    ap (λ (n : ℕ). eqb (n + length (heldCodes (heldIn (s .queue .held)))) 0 && noneOwed (s .repeats)) (how-many (s .queue .places) (s .queue .start) (s .queue .waiting))
+    ∙ ap (λ (t : Bool). t && noneOwed (s .repeats)) (no-codes (s .queue .waiting) (s .queue .held))
 
 -- the tests one after the other
 pub some-wait : (n : ℕ) (h : Held) (r : Repeats) → (n ≡ 0 → ⊥) → nothingLeft n h r ≡ false
@@ -43,8 +43,8 @@ none-of-both false = refl
 
 pub a-code-is-held : (n : ℕ) (h : Held) (r : Repeats) (k : ℕ) → h ≡ held.Of k → nothingLeft n h r ≡ false
 a-code-is-held n h r k e =
-    ap (λ (x : Held). nothingLeft n x r) e ∙ ap (λ (t : Bool). t && noneOwed (r .owed)) (none-of-both (eqb n 0))
+    ap (λ (x : Held). nothingLeft n x r) e ∙ ap (λ (t : Bool). t && noneOwed r) (none-of-both (eqb n 0))
 
-pub no-code-left : (n : ℕ) (h : Held) (r : Repeats) (o : Owed) → n ≡ 0 → h ≡ held.Absent → r .owed ≡ o → nothingLeft n h r ≡ noneOwed o
+pub no-code-left : (n : ℕ) (h : Held) (r : Repeats) (o : Owed) → n ≡ 0 → h ≡ held.Absent → r .owed ≡ o → nothingLeft n h r ≡ isAbsent o
 no-code-left n h r o none absent owed =
-    ap₂ (λ (k : ℕ) (x : Held). nothingLeft k x r) none absent ∙ ap noneOwed owed
+    ap₂ (λ (k : ℕ) (x : Held). nothingLeft k x r) none absent ∙ ap isAbsent owed

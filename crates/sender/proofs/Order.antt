@@ -3,7 +3,7 @@
 -- Assumes nothing.
 use mathlib.Core.Bool.{Bool, true, false, not}
 use mathlib.Core.List.{List, [], _++_, append-assoc, append-nil}
-use mathlib.Core.Path.{_≡_, refl, ap, sym, subst, _∙_}
+use mathlib.Core.Path.{_≡_, refl, ap, ap₂, sym, subst, _∙_}
 use Prim.Native.Nat.{ℕ, zero, suc}
 use native.Mathlib.Omega.{arith}
 use lib.Dec.{ltb}
@@ -19,23 +19,25 @@ use Rattle.sender.specs.Calls.{Call, pushing, sending, draining, countin
 use Rattle.sender.specs.Drain.{drainSender, sendSenderTimes}
 use Rattle.sender.specs.Good.{Good}
 use Rattle.sender.specs.Sender.{countSender, idleSender, sendSender, view, wellFormed}
-use Rattle.sender.specs.Sending.{Sending, send, sendOwed}
-use Rattle.sender.specs.declared.sender.Owed.{Owed}
-use Rattle.sender.specs.declared.sender.Owed.the-variants as owed
+use Rattle.sender.specs.Sending.{Sending, Source, ahead, pops, send, sendFrom, source}
 use Rattle.sender.specs.declared.sender.Sender.{Sender}
 
--- a send takes from the front of what is inside; an owed repeat takes nothing
-owed-takes : (o : Owed) (q : Queued) → inside q ≡ sendOwed o q .took ++ inside (sendOwed o q .next .queue)
-owed-takes (owed.Repeat p) q = refl
-owed-takes owed.Absent q = ring.pop-takes-from-the-front q
+-- a send takes from the front of what is inside; a pair that goes ahead takes nothing
+takes-by : (o : Source) (q : Queued) → inside q ≡ sendFrom o q .took ++ inside (sendFrom o q .next .queue)
+takes-by (ahead p) q = refl
+takes-by pops q = ring.pop-takes-from-the-front q
 
 pub send-takes-from-the-front : (s : Sending) → inside (s .queue) ≡ send s .took ++ inside (send s .next .queue)
 unfolding send
-send-takes-from-the-front s = owed-takes (s .repeats .owed) (s .queue)
+send-takes-from-the-front s = takes-by (source s) (s .queue)
+
+pub taken-is : (s : Sender) → Good s → takenBy s ≡ send (view s) .took
+taken-is s g = rw (g .formed) refl
 
 one-taken : (s : Sender) → Good s → inside (view s .queue) ≡ takenBy s ++ inside (view (sendSender s .1) .queue)
 one-taken s g =
-    send-takes-from-the-front (view s) ∙ ap (λ (v : Sending). takenBy s ++ inside (v .queue)) (sym (send-refines s g .1))
+    send-takes-from-the-front (view s)
+    ∙ ap₂ (λ (l : List Code) (v : Sending). l ++ inside (v .queue)) (sym (taken-is s g)) (sym (send-refines s g .1))
 
 -- and so do many in a row
 pub sends-stay-good : (n : ℕ) (s : Sender) → Good s → Good (sendSenderTimes n s)

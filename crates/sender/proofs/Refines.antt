@@ -25,9 +25,7 @@ use Rattle.queue.specs.Ring as queue
 use Rattle.queue.specs.declared.ring.Queue.{Queue}
 use Rattle.sender.specs.Good.{Good}
 use Rattle.sender.specs.Sender.{countSender, freshSender, idleSender, pushSender, queueAfter, repeatsFit, sendSender, sender, view, wellFormed}
-use Rattle.sender.specs.Sending.{isIdle, noRepeat, push, repeating, repeatsAfter, send, sendOwed, sendingOf}
-use Rattle.sender.specs.declared.sender.Owed.{Owed}
-use Rattle.sender.specs.declared.sender.Owed.the-variants as owed
+use Rattle.sender.specs.Sending.{Source, ahead, isIdle, noRepeat, pops, push, repeating, repeatsAfter, send, sendFrom, sendingOf, source}
 use Rattle.sender.specs.declared.sender.Repeats.{Repeats}
 use Rattle.sender.specs.declared.sender.Sender.{Sender}
 
@@ -56,7 +54,7 @@ pub pushed-as : (s : Sender) (c : Code) → wellFormed s ≡ true → pushSender
 unfolding pushSender
 pushed-as s c e = rw e refl
 
-pub sent-as : (s : Sender) → wellFormed s ≡ true → sendSender s ≡ (answer (send (view s) .pair), sender (queueAfter (s .repeats .owed) (s .queue)) (send (view s) .next .repeats))
+pub sent-as : (s : Sender) → wellFormed s ≡ true → sendSender s ≡ (answer (send (view s) .pair), sender (queueAfter (source (view s)) (s .queue)) (send (view s) .next .repeats))
 unfolding sendSender
 sent-as s e = rw e refl
 
@@ -88,9 +86,9 @@ popped-formed q e =
     (omega (arith, ap (λ (r : Queue). r .start) (popped-as q e)))
     (subst Fit (sym (popped-view q e)) (pop-fits (queue.view q) (ring.good-fits q e)))
 
-view-after : (o : Owed) (q : Queue) → queue.wellFormed q ≡ true → sendingOf (queue.view (queueAfter o q)) (sendOwed o (queue.view q) .next .repeats) ≡ sendOwed o (queue.view q) .next
-view-after (owed.Repeat p) q e = refl
-view-after owed.Absent q e = ap (λ (v : Queued). sendingOf v (repeatsAfter (pop (queue.view q) .pair))) (popped-view q e)
+view-after : (o : Source) (q : Queue) → queue.wellFormed q ≡ true → sendingOf (queue.view (queueAfter o q)) (sendFrom o (queue.view q) .next .repeats) ≡ sendFrom o (queue.view q) .next
+view-after (ahead p) q e = refl
+view-after pops q e = ap (λ (v : Queued). sendingOf v (repeatsAfter (pop (queue.view q) .pair))) (popped-view q e)
 
 pub sent-pair : (s : Sender) → wellFormed s ≡ true → sendSender s .0 ≡ answer (send (view s) .pair)
 sent-pair s e = ap (λ (r : Outcome Pair × Sender). r .0) (sent-as s e)
@@ -99,7 +97,7 @@ pub sent-view : (s : Sender) → wellFormed s ≡ true → view (sendSender s .1
 unfolding send
 sent-view s e =
     ap (λ (r : Outcome Pair × Sender). view (r .1)) (sent-as s e)
-    ∙ view-after (s .repeats .owed) (s .queue) (queue-formed s e)
+    ∙ view-after (source (view s)) (s .queue) (queue-formed s e)
 
 -- a command pair of odd parity may be owed, and no other pair is
 repeat-by : (p : Pair) (t : Bool) → isCommandPair p ≡ t → SentPair p → repeatsFit (cond t (repeating p) noRepeat) ≡ true
@@ -111,19 +109,19 @@ repeat-fits q e =
     let p = pop (queue.view q) .pair in
     repeat-by p (isCommandPair p) refl (popped-is-sent (queue.view q) (ring.good-fits q e))
 
-formed-after : (o : Owed) (q : Queue) → queue.wellFormed q ≡ true → wellFormed (sender (queueAfter o q) (sendOwed o (queue.view q) .next .repeats)) ≡ true
-formed-after (owed.Repeat p) q e = well-formed _ _ e refl
-formed-after owed.Absent q e = well-formed _ _ (popped-formed q e) (repeat-fits q e)
+formed-after : (o : Source) (q : Queue) → queue.wellFormed q ≡ true → wellFormed (sender (queueAfter o q) (sendFrom o (queue.view q) .next .repeats)) ≡ true
+formed-after (ahead p) q e = well-formed _ _ e refl
+formed-after pops q e = well-formed _ _ (popped-formed q e) (repeat-fits q e)
 
 pub sent-formed : (s : Sender) → wellFormed s ≡ true → wellFormed (sendSender s .1) ≡ true
 unfolding send
 sent-formed s e =
     ap (λ (r : Outcome Pair × Sender). wellFormed (r .1)) (sent-as s e)
-    ∙ formed-after (s .repeats .owed) (s .queue) (queue-formed s e)
+    ∙ formed-after (source (view s)) (s .queue) (queue-formed s e)
 
-places-after : (o : Owed) (q : Queue) → queue.wellFormed q ≡ true → queueAfter o q .places ≡ q .places
-places-after (owed.Repeat p) q e = refl
-places-after owed.Absent q e = ap (λ (r : Queue). r .places) (popped-as q e)
+places-after : (o : Source) (q : Queue) → queue.wellFormed q ≡ true → queueAfter o q .places ≡ q .places
+places-after (ahead p) q e = refl
+places-after pops q e = ap (λ (r : Queue). r .places) (popped-as q e)
 
 pub send-refines : (s : Sender) → Good s → (sendSender s .0 ≡ answer (send (view s) .pair)) × (view (sendSender s .1) ≡ send (view s) .next)
 send-refines s g = (sent-pair s (g .formed), sent-view s (g .formed))
@@ -131,7 +129,7 @@ send-refines s g = (sent-pair s (g .formed), sent-view s (g .formed))
 pub send-good : (s : Sender) → Good s → Good (sendSender s .1)
 send-good s g = record {
   formed = sent-formed s (g .formed);
-  places = ap (λ (r : Outcome Pair × Sender). length (r .1 .queue .places)) (sent-as s (g .formed)) ∙ ap length (places-after (s .repeats .owed) (s .queue) (queue-formed s (g .formed))) ∙ g .places;
+  places = ap (λ (r : Outcome Pair × Sender). length (r .1 .queue .places)) (sent-as s (g .formed)) ∙ ap length (places-after (source (view s)) (s .queue) (queue-formed s (g .formed))) ∙ g .places;
 }
 
 -- 12: the state comes back bit for bit

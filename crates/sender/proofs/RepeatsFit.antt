@@ -1,17 +1,23 @@
 -- Where the owed pair fits, 12 is the queue's own test: a push and a count of the sender are then those of its queue,
--- refused ones too. Where it does not fit, the state is ill-formed whatever its queue.
+-- refused ones too. Where it does not fit, the state is ill-formed whatever its queue. It fits where it is a command pair of
+-- odd parity.
 -- Assumes nothing.
 use mathlib.Core.Bool.{Bool, true, false, _&&_}
 use mathlib.Core.Path.{_≡_, refl, ap, sym, _∙_}
 use Prim.Native.Nat.{ℕ}
+use Rattle.code.proofs.Both.{both-left, both-right}
 use Rattle.code.specs.Outcome.{Outcome}
+use Rattle.code.specs.Read.{isCommandPair, isOddPair}
 use Rattle.code.specs.declared.code.Code.{Code}
+use Rattle.code.specs.declared.pair.Pair.{Pair}
 use Rattle.queue.proofs.Refines as ring
 use Rattle.queue.specs.Ring.{countRing, pushRing}
 use Rattle.queue.specs.Ring as queue
 use Rattle.queue.specs.declared.ring.Queue.{Queue}
-use Rattle.sender.proofs.Refines.{ill-formed-count, ill-formed-push, pushed-as, well-formed}
-use Rattle.sender.specs.Sender.{countSender, pushSender, repeatsFit, sender, wellFormed}
+use Rattle.sender.proofs.Refines.{ill-formed-count, ill-formed-push, pushed-as, repeats-formed, well-formed}
+use Rattle.sender.specs.Sender.{countSender, owedFits, pushSender, repeatsFit, sender, wellFormed}
+use Rattle.sender.specs.declared.sender.Owed.{Owed}
+use Rattle.sender.specs.declared.sender.Owed.the-variants as owed
 use Rattle.sender.specs.declared.sender.Sender.{Sender}
 
 pub queue-fails : (s : Sender) → queue.wellFormed (s .queue) ≡ false → wellFormed s ≡ false
@@ -25,6 +31,15 @@ both-fail false = refl
 pub repeats-fail : (s : Sender) → repeatsFit (s .repeats) ≡ false → wellFormed s ≡ false
 unfolding wellFormed
 repeats-fail s e = rw e (both-fail (queue.wellFormed (s .queue)))
+
+-- what is owed is a command pair of odd parity
+owed-by : (o : Owed) (p : Pair) → o ≡ owed.Repeat p → owedFits o ≡ true → (isOddPair p ≡ true) × (isCommandPair p ≡ true)
+owed-by o p is fits =
+    let both : (isOddPair p && isCommandPair p) ≡ true = rw is at fits in
+    (both-left (isOddPair p) (isCommandPair p) both, both-right (isOddPair p) (isCommandPair p) both)
+
+pub owed-is-a-command : (s : Sender) (p : Pair) → wellFormed s ≡ true → s .repeats .owed ≡ owed.Repeat p → (isOddPair p ≡ true) × (isCommandPair p ≡ true)
+owed-is-a-command s p formed is = owed-by (s .repeats .owed) p is (repeats-formed s formed)
 
 abbrev pushedBy : Sender → Outcome Unit × Queue → Outcome Unit × Sender
 pushedBy s r = (r .0, sender (r .1) (s .repeats))

@@ -1,7 +1,7 @@
 -- The sends that are left are counted exactly: a send of a sender that is not idle leaves one fewer, and with none left it is
 -- idle. There are at most 3 n + 1 of them, n being the codes that it has.
 -- Assumes nothing.
-use mathlib.Core.Bool.{Bool, true, false, cond, not, _&&_, true≢false}
+use mathlib.Core.Bool.{Bool, true, false, cond, _&&_, true≢false}
 use mathlib.Core.List.{List, [], _∷_}
 use mathlib.Core.Option.{Option, none, some}
 use mathlib.Core.Path.{_≡_, refl, ap, sym, _∙_}
@@ -11,7 +11,7 @@ use borrow.Author.Tests.{le-leb, leb-false, leb-true, lt-leb, ne-eqb}
 use lib.Dec.{eqb, leb}
 use lib.ListN.{length}
 use Rattle.code.proofs.Both.{both-left, both-right}
-use Rattle.code.specs.Code.{byteLen, needsBackspace}
+use Rattle.code.specs.Code.{needsBackspace}
 use Rattle.code.specs.Outcome.{answer}
 use Rattle.code.specs.Read.{isCommandPair}
 use Rattle.code.specs.Pair.{pair}
@@ -21,8 +21,10 @@ use Rattle.code.specs.declared.pair.Pair.{Pair}
 use Rattle.queue.proofs.Commands.{code-says}
 use Rattle.queue.proofs.Fit.{pop-fits}
 use Rattle.queue.proofs.Refines.{good-fits}
+use Rattle.queue.proofs.Ways.{Way, held-code, nothing-inside, last-code, two-codes, before-command, space-first, command-goes, way-of}
+use Rattle.queue.proofs.WellFormed.{held-queueable, may-queueable}
 use Rattle.queue.specs.Good.{Fit}
-use Rattle.queue.specs.Queue.{Pop, Queued, byteOf, count, heldCodes, isNul, isSingle, mayWait, pairOf, pop, popCommand, popHeld, popSingle, popTwo, popWaiting, queued}
+use Rattle.queue.specs.Queue.{Pop, Queued, byteOf, count, heldCodes, isSingle, mayWait, pairOf, pop, empty, queued}
 use Rattle.queue.specs.Queueable.{isQueueable}
 use Rattle.queue.specs.Ring.{allMayWait}
 use Rattle.sender.proofs.Order.{sends-stay-good}
@@ -31,14 +33,14 @@ use Rattle.sender.specs.Drain.{sendSenderTimes}
 use Rattle.sender.specs.Good.{Good}
 use Rattle.sender.specs.Sender.{idleSender, sendSender, view}
 use Rattle.sender.specs.SendsLeft.{copies, sendsFor, sendsForHeld, sendsLeft, spaces}
-use Rattle.sender.specs.Sending.{Sending, isIdle, repeatsAfter, send, sendOwed, sendTimes, sendingOf, stillOwed}
+use Rattle.sender.specs.Sending.{Sending, Source, ahead, isAbsent, isIdle, noneOwed, owedPairs, pops, repeatsAfter, send, sendFrom, sendTimes, source, sourceBy, stillOwed}
 use Rattle.sender.specs.declared.sender.Owed.{Owed}
 use Rattle.sender.specs.declared.sender.Owed.the-variants as owed
 use Rattle.sender.specs.declared.sender.Sender.{Sender}
 
 -- what is owed after a pair that begins with a code is the second of its copies
 abbrev owes : Pair → ℕ
-owes p = length (stillOwed (repeatsAfter p .owed))
+owes p = length (stillOwed (repeatsAfter p))
 
 owes-by : (t u : Bool) (p : Pair) → isCommandPair p ≡ t → t ≡ u → suc (owes p) ≡ cond u 2 1
 owes-by true true p e same = rw e refl
@@ -49,39 +51,32 @@ owes-by false false p e same = rw e refl
 pub second-copy : (c : Code) (p : Pair) → isCommandPair p ≡ isCommandPair (pairOf c) → isQueueable c ≡ true → suc (owes p) ≡ copies c
 second-copy c p first may = owes-by (isCommandPair p) (isCommandCode c) p refl (first ∙ code-says c may)
 
-waits : (x : Code) (rest : List Code) → allMayWait (x ∷ rest) ≡ true → isQueueable x ≡ true
-waits x rest e = both-right (not (isNul x)) (isQueueable x) (both-left (mayWait x) (allMayWait rest) e)
+first-waits : (x : Code) (l : List Code) → allMayWait (x ∷ l) ≡ true → isQueueable x ≡ true
+first-waits x l all = may-queueable x (both-left (mayWait x) (allMayWait l) all)
 
 -- a pop, and the send of its pair, leaves one fewer
-abbrev OneFewer : ℕ → Pop → Type 0
-OneFewer n p = n ≡ suc (owes (p .pair) + sendsForHeld (p .next .held) + sendsFor false (p .next .waiting))
+abbrev ofQueue : Queued → ℕ
+ofQueue q = sendsForHeld (q .held) + sendsFor false (q .waiting)
 
-command-fewer : (x : Code) (rest : List Code) (t : Bool) → needsBackspace x ≡ t → isQueueable x ≡ true → OneFewer (spaces x + copies x + sendsFor false rest) (popCommand x rest)
-command-fewer x rest true e may = rw e (omega arith)
-command-fewer x rest false e may = rw e (omega (arith, second-copy x (pairOf x) refl may))
+popped-fewer : {q : Queued} {p : Pop} → Way q p → Fit q → 0 < count q → ofQueue q ≡ suc (owes (p .pair) + ofQueue (p .next))
+popped-fewer (held-code c l) f busy = omega (arith, second-copy c (pairOf c) refl (held-queueable c (f .held)))
+popped-fewer nothing-inside f busy = absurd (omega (arith, busy))
+popped-fewer (last-code x e) f busy =
+    rw e (omega (arith, second-copy x (pair (byteOf x) 0x80) refl (first-waits x [] (f .codes))))
+popped-fewer (two-codes x y l e next) f busy =
+    rw (e, next) (omega (arith, second-copy x (pair (byteOf x) (byteOf y)) refl (first-waits x (y ∷ l) (f .codes))))
+popped-fewer (before-command x y l e next) f busy =
+    rw (e, next)
+    (omega (arith, second-copy x (pair (byteOf x) (cond (needsBackspace y) 0x20 0x80)) refl (first-waits x (y ∷ l) (f .codes))))
+popped-fewer (space-first x l e wants) f busy = rw (e, wants) (omega arith)
+popped-fewer (command-goes x l e wants) f busy =
+    rw (e, wants) (omega (arith, second-copy x (pairOf x) refl (first-waits x l (f .codes))))
 
-two-fewer : (x y : Code) (rest : List Code) (t : Bool) → isSingle y ≡ t → isQueueable x ≡ true → OneFewer (copies x + sendsFor true (y ∷ rest)) (popTwo x y rest)
-two-fewer x y rest true e may = rw e (omega (arith, second-copy x (pair (byteOf x) (byteOf y)) refl may))
-two-fewer x y rest false e may = rw e (omega (arith, second-copy x (pair (byteOf x) (cond (needsBackspace y) 0x20 0x80)) refl may))
-
-single-fewer : (x : Code) (rest : List Code) → isQueueable x ≡ true → OneFewer (copies x + sendsFor true rest) (popSingle x rest)
-single-fewer x [] may = omega (arith, second-copy x (pair (byteOf x) 0x80) refl may)
-single-fewer x (y ∷ rest) may = two-fewer x y rest (isSingle y) refl may
-
-waiting-fewer : (x : Code) (rest : List Code) (t : Bool) → isSingle x ≡ t → isQueueable x ≡ true → OneFewer (sendsFor false (x ∷ rest)) (popWaiting (x ∷ rest))
-waiting-fewer x rest true e may = rw e (single-fewer x rest may)
-waiting-fewer x rest false e may = rw e (command-fewer x rest (needsBackspace x) refl may)
-
-popped-fewer : (h : Option Code) (l : List Code) → Fit (queued l h) → 0 < count (queued l h) → OneFewer (sendsForHeld h + sendsFor false l) (popHeld h l)
-popped-fewer (some c) l f busy = omega (arith, second-copy c (pairOf c) refl (both-right (eqb (byteLen c) 2) (isQueueable c) (f .held)))
-popped-fewer none [] f busy = absurd (omega (arith, busy))
-popped-fewer none (x ∷ rest) f busy =
-    omega (arith, waiting-fewer x rest (isSingle x) refl (waits x rest (f .codes)))
-
-sent-fewer : (o : Owed) (q : Queued) → Fit q → isIdle (sendingOf q (record { owed = o })) ≡ false → sendsLeft (sendingOf q (record { owed = o })) ≡ suc (sendsLeft (sendOwed o q .next))
-unfolding pop sendsLeft
-sent-fewer (owed.Repeat p) q f busy = omega arith
-sent-fewer owed.Absent q f busy = omega (arith, popped-fewer (q .held) (q .waiting) f (has-codes (count q) busy))
+sent-fewer : (o : Owed) (s : Sending) → s .repeats .owed ≡ o → Fit (s .queue) → isIdle s ≡ false → sendsLeft s ≡ suc (sendsLeft (sendFrom (sourceBy o) (s .queue) .next))
+unfolding sendsLeft
+sent-fewer (owed.Repeat p) s e f busy = rw e (omega arith)
+sent-fewer owed.Absent s e f busy =
+    rw e (omega (arith, popped-fewer (way-of (s .queue)) f (has-codes (count (s .queue)) (rw e at busy))))
   where
     has-codes : (n : ℕ) → (eqb n 0 && true) ≡ false → 0 < n
     has-codes zero e = absurd (true≢false e)
@@ -89,43 +84,42 @@ sent-fewer owed.Absent q f busy = omega (arith, popped-fewer (q .held) (q .waiti
 
 pub one-fewer-left : (s : Sending) → Fit (s .queue) → isIdle s ≡ false → sendsLeft s ≡ suc (sendsLeft (send s .next))
 unfolding send
-one-fewer-left s f busy = sent-fewer (s .repeats .owed) (s .queue) f busy
+one-fewer-left s f busy = sent-fewer (s .repeats .owed) s refl f busy
 
 -- the queue of what is left fits again
-fits-after : (o : Owed) (q : Queued) → Fit q → Fit (sendOwed o q .next .queue)
-fits-after (owed.Repeat p) q f = f
-fits-after owed.Absent q f = pop-fits q f
+fits-after : (o : Source) (q : Queued) → Fit q → Fit (sendFrom o q .next .queue)
+fits-after (ahead p) q f = f
+fits-after pops q f = pop-fits q f
 
 pub send-fits : (s : Sending) → Fit (s .queue) → Fit (send s .next .queue)
 unfolding send
-send-fits s f = fits-after (s .repeats .owed) (s .queue) f
+send-fits s f = fits-after (source s) (s .queue) f
 
--- with codes inside it is busy, and while it is idle none is left
-pub with-codes-busy : (s : Sending) → 0 < count (s .queue) → isIdle s ≡ false
-with-codes-busy s more = rw (ne-eqb (count (s .queue)) 0 (λ (e : count (s .queue) ≡ 0). omega (arith, e, more))) refl
+-- idle: nothing is owed, and the queue is empty
+nothing-waits : (l : List Code) (h : Option Code) → eqb (count (queued l h)) 0 ≡ true → queued l h ≡ empty
+nothing-waits [] none e = refl
+nothing-waits [] (some c) e = absurd (true≢false (sym e))
+nothing-waits (x ∷ l) h e = absurd (true≢false (sym e ∙ ne-eqb (count (queued (x ∷ l) h)) 0 (λ (z : count (queued (x ∷ l) h) ≡ 0). omega (arith, z))))
 
-idle-none : (l : List Code) (h : Option Code) (o : Owed) → isIdle (sendingOf (queued l h) (record { owed = o })) ≡ true → sendsLeft (sendingOf (queued l h) (record { owed = o })) ≡ 0
-unfolding sendsLeft
-idle-none [] none owed.Absent e = refl
-idle-none [] none (owed.Repeat p) e = absurd (true≢false (sym e))
-idle-none [] (some c) o e = absurd (true≢false (sym e))
-idle-none (x ∷ l) h o e =
-    absurd (true≢false (sym e ∙ with-codes-busy (sendingOf (queued (x ∷ l) h) (record { owed = o })) (omega arith)))
+nothing-owed : (o : Owed) → isAbsent o ≡ true → o ≡ owed.Absent
+nothing-owed owed.Absent e = refl
+nothing-owed (owed.Repeat p) e = absurd (true≢false (sym e))
 
-pub idle-has-none-left : (s : Sending) → isIdle s ≡ true → sendsLeft s ≡ 0
-idle-has-none-left s e = idle-none (s .queue .waiting) (s .queue .held) (s .repeats .owed) e
+module _ (s : Sending) (idle : isIdle s ≡ true) where
+  empty-queue : s .queue ≡ empty
+  empty-queue = nothing-waits (s .queue .waiting) (s .queue .held) (both-left (eqb (count (s .queue)) 0) (noneOwed (s .repeats)) idle)
 
--- an idle one stays so: it sends padding
-pub idle-stays : (s : Sending) → isIdle s ≡ true → isIdle (send s .next) ≡ true
-unfolding send pop
-idle-stays s e = still (s .queue .waiting) (s .queue .held) (s .repeats .owed) e
-  where
-    still : (l : List Code) (h : Option Code) (o : Owed) → isIdle (sendingOf (queued l h) (record { owed = o })) ≡ true → isIdle (sendOwed o (queued l h) .next) ≡ true
-    still [] none owed.Absent e = refl
-    still [] none (owed.Repeat p) e = absurd (true≢false (sym e))
-    still [] (some c) o e = absurd (true≢false (sym e))
-    still (x ∷ l) h o e =
-        absurd (true≢false (sym e ∙ with-codes-busy (sendingOf (queued (x ∷ l) h) (record { owed = o })) (omega arith)))
+  none-owed : s .repeats .owed ≡ owed.Absent
+  none-owed = nothing-owed (s .repeats .owed) (both-right (eqb (count (s .queue)) 0) (noneOwed (s .repeats)) idle)
+
+  pub idle-has-none-left : sendsLeft s ≡ 0
+  unfolding sendsLeft
+  idle-has-none-left = rw (empty-queue, none-owed) refl
+
+  -- it stays so: it sends padding
+  pub idle-stays : isIdle (send s .next) ≡ true
+  unfolding send pop
+  idle-stays = rw (empty-queue, none-owed) refl
 
 -- so it is busy for exactly so many sends, and idle from then on
 one-more : (a n : ℕ) (t : Bool) → leb a n ≡ t → t ≡ leb (suc a) (suc n)
@@ -175,7 +169,7 @@ held-at-most : (h : Option Code) → sendsForHeld h ≤ 3 * length (heldCodes h)
 held-at-most none = omega arith
 held-at-most (some c) = omega (arith, two-copies (isCommandCode c))
 
-one-owed : (o : Owed) → length (stillOwed o) ≤ 1
+one-owed : (o : Owed) → length (owedPairs o) ≤ 1
 one-owed owed.Absent = omega arith
 one-owed (owed.Repeat p) = omega arith
 

@@ -17,12 +17,10 @@ use Rattle.queue.specs.Ring as queue
 use Rattle.queue.specs.Turn.{freeing}
 use Rattle.queue.specs.declared.ring.Queue.{Queue}
 use Rattle.sender.proofs.Refines.{queue-formed, sent-as}
-use Rattle.sender.specs.Next.{moved, stepBy, stepOf}
+use Rattle.sender.specs.Parts.{moved, stepBy, stepOf}
 use Rattle.sender.specs.Sender.{queueAfter, sendSender, sender, view, wellFormed}
-use Rattle.sender.specs.Sending.{noRepeat, repeatsAfter, send, sendOwed}
+use Rattle.sender.specs.Sending.{Source, ahead, noRepeat, pops, repeatsAfter, send, sendFrom, source}
 use Rattle.sender.specs.declared.send.Step.{Step}
-use Rattle.sender.specs.declared.sender.Owed.{Owed}
-use Rattle.sender.specs.declared.sender.Owed.the-variants as owed
 use Rattle.sender.specs.declared.sender.Sender.{Sender}
 
 -- the step of a state
@@ -46,15 +44,15 @@ same-queue q less =
 popped-queue : (q : Queue) → queue.wellFormed q ≡ true → freeing q (turnIn q) ≡ popRing q .1
 popped-queue q e = turn-leaves q ∙ sym (ap (λ (r : Outcome Pair × Queue). r .1) (ring.popped-as q e))
 
-abbrev Steps : Sender → Owed → Type 0
+abbrev Steps : Sender → Source → Type 0
 Steps s o =
     let t = stepBy o (s .queue .held) (turnIn (s .queue)) in
-    (t .pair ≡ sendOwed o (queue.view (s .queue)) .pair)
-    × (moved s t ≡ sender (queueAfter o (s .queue)) (sendOwed o (queue.view (s .queue)) .next .repeats))
+    (t .pair ≡ sendFrom o (queue.view (s .queue)) .pair)
+    × (moved s t ≡ sender (queueAfter o (s .queue)) (sendFrom o (queue.view (s .queue)) .next .repeats))
 
-steps-by : (s : Sender) (o : Owed) → queue.wellFormed (s .queue) ≡ true → Steps s o
-steps-by s (owed.Repeat p) e = (refl, ap (λ (q : Queue). sender q noRepeat) (same-queue (s .queue) (formed (s .queue) e .start)))
-steps-by s owed.Absent e = (
+steps-by : (s : Sender) (o : Source) → queue.wellFormed (s .queue) ≡ true → Steps s o
+steps-by s (ahead p) e = (refl, ap (λ (q : Queue). sender q noRepeat) (same-queue (s .queue) (formed (s .queue) e .start)))
+steps-by s pops e = (
   turn-is-the-pop (s .queue),
   ap₂ (λ (q : Queue) (p : Pair). sender q (repeatsAfter p)) (popped-queue (s .queue) e) (turn-is-the-pop (s .queue)),
 )
@@ -62,13 +60,13 @@ steps-by s owed.Absent e = (
 pub step-is-the-send : (s : Sender) → wellFormed s ≡ true → (answer (stepIn s .pair), moved s (stepIn s)) ≡ sendSender s
 unfolding send
 step-is-the-send s e =
-    let told = steps-by s (s .repeats .owed) (queue-formed s e) in
+    let told = steps-by s (source (view s)) (queue-formed s e) in
     ap₂ {C = Outcome Pair × Sender} (λ (p : Pair) (r : Sender). (answer p, r)) (told .0) (told .1) ∙ sym (sent-as s e)
 
 -- it frees no more places than there are codes
-freed-by : (s : Sender) (o : Owed) → stepBy o (s .queue .held) (turnIn (s .queue)) .freed ≤ s .queue .waiting
-freed-by s (owed.Repeat p) = omega arith
-freed-by s owed.Absent = turn-frees-waiting (s .queue)
+freed-by : (s : Sender) (o : Source) → stepBy o (s .queue .held) (turnIn (s .queue)) .freed ≤ s .queue .waiting
+freed-by s (ahead p) = omega arith
+freed-by s pops = turn-frees-waiting (s .queue)
 
 pub step-frees-waiting : (s : Sender) → stepIn s .freed ≤ s .queue .waiting
-step-frees-waiting s = freed-by s (s .repeats .owed)
+step-frees-waiting s = freed-by s (source (view s))

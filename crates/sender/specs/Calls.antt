@@ -11,7 +11,7 @@ use Rattle.code.specs.declared.pair.Pair.{Pair}
 use Rattle.queue.specs.Calls.{letIn}
 use Rattle.queue.specs.Queue.{inside}
 use Rattle.sender.specs.Drain.{drainSender}
-use Rattle.sender.specs.Sender.{countSender, freshSender, idleSender, pushSender, sendSender, view}
+use Rattle.sender.specs.Sender.{countSender, freshSender, idleSender, pushSender, sendSender, view, wellFormed}
 use Rattle.sender.specs.Sending.{send}
 use Rattle.sender.specs.declared.sender.Sender.{Sender}
 
@@ -87,9 +87,9 @@ abbrev pub inCalls : {A : Type 0} → (Sender → List A) → List Call → Send
 inCalls one [] s = []
 inCalls one (c ∷ cs) s = inSends one (sendsBy (onSender c s .0)) s ++ inCalls one cs (onSender c s .1)
 
--- the codes that a send takes
+-- the codes that a send takes; a refused one takes none
 abbrev pub takenBy : Sender → List Code
-takenBy s = send (view s) .took
+takenBy s = cond (wellFormed s) (send (view s) .took) []
 
 -- the code that a call let in, by its reply: only a push lets one in
 abbrev pub letInBy : Call → Reply → List Code

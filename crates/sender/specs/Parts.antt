@@ -12,21 +12,19 @@ use Rattle.queue.specs.declared.ring.Held.{Held}
 use Rattle.queue.specs.declared.ring.Held.the-variants as held
 use Rattle.sender.specs.Drain.{drainedPairs, filled, sendSenderTimes}
 use Rattle.sender.specs.Sender.{view}
-use Rattle.sender.specs.Sending.{noRepeat, noneOwed, repeatsAfter}
-use Rattle.sender.specs.declared.drain.Progress.{Progress}
+use Rattle.sender.specs.Sending.{Source, ahead, noRepeat, noneOwed, pops, repeatsAfter, sourceBy}
+use Rattle.sender.specs.declared.drain.Writing.{Writing}
 use Rattle.sender.specs.declared.send.Step.{Step}
-use Rattle.sender.specs.declared.sender.Owed.{Owed}
-use Rattle.sender.specs.declared.sender.Owed.the-variants as owed
 use Rattle.sender.specs.declared.sender.Repeats.{Repeats}
 use Rattle.sender.specs.declared.sender.Sender.{Sender}
 
--- what a send does, by what is owed and by the queue's turn
-abbrev pub stepBy : Owed → Held → Turn → Step
-stepBy (owed.Repeat p) h t = record { pair = p; freed = 0; held = h; repeats = noRepeat }
-stepBy owed.Absent h t = record { pair = t .pair; freed = t .freed; held = t .held; repeats = repeatsAfter (t .pair) }
+-- what a send does, by where its pair comes from and by the queue's turn
+abbrev pub stepBy : Source → Held → Turn → Step
+stepBy (ahead p) h t = record { pair = p; freed = 0; held = h; repeats = noRepeat }
+stepBy pops h t = record { pair = t .pair; freed = t .freed; held = t .held; repeats = repeatsAfter (t .pair) }
 
 abbrev pub stepOf : ℕ → ℕ → ℕ → Held → Repeats → Step
-stepOf first second waiting h r = stepBy (r .owed) h (turnOf first second waiting h)
+stepOf first second waiting h r = stepBy (sourceBy (r .owed)) h (turnOf first second waiting h)
 
 abbrev pub moved : Sender → Step → Sender
 moved s t = record {
@@ -52,7 +50,7 @@ noneHeld held.Absent = true
 noneHeld (held.Of n) = false
 
 abbrev pub nothingLeft : ℕ → Held → Repeats → Bool
-nothingLeft waiting h r = eqb waiting 0 && noneHeld h && noneOwed (r .owed)
+nothingLeft waiting h r = eqb waiting 0 && noneHeld h && noneOwed r
 
 -- the sends of these pairs: their count, the state after them, and the part with the pairs at its beginning
 abbrev pub filledBy : Sender → List ℕ → List Pair → ℕ × Sender × List ℕ
@@ -61,8 +59,8 @@ filledBy s part ps = (length ps, sendSenderTimes (length ps) s, filled part ps)
 abbrev pub filling : Sender → List ℕ → ℕ → ℕ × Sender × List ℕ
 filling s part limit = filledBy s part (drainedPairs limit (length part) (view s))
 
-abbrev pub senderAt : Sender → Progress → Sender
+abbrev pub senderAt : Sender → Writing → Sender
 senderAt s r = senderOf (s .queue .places) (r .start) (r .waiting) (r .held) (r .repeats)
 
-abbrev pub progressOutcome : Sender → Progress → List ℕ → ℕ × Sender × List ℕ
-progressOutcome s r part = (r .sends, senderAt s r, part)
+abbrev pub writingOutcome : Sender → Writing → List ℕ → ℕ × Sender × List ℕ
+writingOutcome s r part = (r .sends, senderAt s r, part)

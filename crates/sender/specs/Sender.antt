@@ -10,7 +10,7 @@ use Rattle.queue.specs.Queue.{count}
 use Rattle.queue.specs.Ring.{countAnswerOutcome, freshRing, popAnswerOutcome, popRing, pushAnswerOutcome, pushRing}
 use Rattle.queue.specs.Ring as ring
 use Rattle.queue.specs.declared.ring.Queue.{Queue}
-use Rattle.sender.specs.Sending.{Sending, isIdle, noRepeat, send, sendingOf}
+use Rattle.sender.specs.Sending.{Sending, Source, ahead, isIdle, noRepeat, pops, send, sendingOf, source}
 use Rattle.sender.specs.declared.idle.IdleAnswer.{IdleAnswer}
 use Rattle.sender.specs.declared.idle.IdleAnswer.the-variants as idle-answer
 use Rattle.sender.specs.declared.idle.Idleness.{Idleness}
@@ -53,15 +53,15 @@ freshSender = sender freshRing noRepeat
 unfoldable pub pushSender : Sender → Code → Outcome Unit × Sender
 pushSender s c = tested s (pushRing (s .queue) c .0, sender (pushRing (s .queue) c .1) (s .repeats))
 
--- an owed repeat leaves the queue as it is
-abbrev pub queueAfter : Owed → Queue → Queue
-queueAfter (owed.Repeat p) q = q
-queueAfter owed.Absent q = popRing q .1
+-- the queue is popped, or stays as it is
+abbrev pub queueAfter : Source → Queue → Queue
+queueAfter (ahead p) q = q
+queueAfter pops q = popRing q .1
 
 unfoldable pub sendSender : Sender → Outcome Pair × Sender
 sendSender s =
     tested s
-    (answer (send (view s) .pair), sender (queueAfter (s .repeats .owed) (s .queue)) (send (view s) .next .repeats))
+    (answer (send (view s) .pair), sender (queueAfter (source (view s)) (s .queue)) (send (view s) .next .repeats))
 
 -- `n_codes` is the queue's: an owed pair is no code
 unfoldable pub countSender : Sender → Outcome ℕ × Sender

@@ -28,18 +28,24 @@ noRepeat = record { owed = owed.Absent }
 abbrev pub repeating : Pair → Repeats
 repeating p = record { owed = owed.Repeat p }
 
-abbrev pub noneOwed : Owed → Bool
-noneOwed owed.Absent = true
-noneOwed (owed.Repeat p) = false
+abbrev pub isAbsent : Owed → Bool
+isAbsent owed.Absent = true
+isAbsent (owed.Repeat p) = false
+
+abbrev pub noneOwed : Repeats → Bool
+noneOwed r = isAbsent (r .owed)
 
 -- the repeat that is still to come, if any
-abbrev pub stillOwed : Owed → List Pair
-stillOwed owed.Absent = []
-stillOwed (owed.Repeat p) = p ∷ []
+abbrev pub owedPairs : Owed → List Pair
+owedPairs owed.Absent = []
+owedPairs (owed.Repeat p) = p ∷ []
+
+abbrev pub stillOwed : Repeats → List Pair
+stillOwed r = owedPairs (r .owed)
 
 -- nothing waiting, held or owed
 abbrev pub isIdle : Sending → Bool
-isIdle s = eqb (count (s .queue)) 0 && noneOwed (s .repeats .owed)
+isIdle s = eqb (count (s .queue)) 0 && noneOwed (s .repeats)
 
 -- as it is at first: nothing waits, and nothing is held or owed
 abbrev pub emptyLists : Sending
@@ -62,13 +68,25 @@ repeatsAfter p = cond (isCommandPair p) (repeating p) noRepeat
 abbrev pub sendPopped : Pop → Send
 sendPopped p = record { pair = p .pair; took = p .took; next = sendingOf (p .next) (repeatsAfter (p .pair)) }
 
--- an owed repeat, else a pop
-abbrev pub sendOwed : Owed → Queued → Send
-sendOwed (owed.Repeat p) q = record { pair = p; took = []; next = sendingOf q noRepeat }
-sendOwed owed.Absent q = sendPopped (pop q)
+-- where a send's pair comes from: it goes ahead of the queue's, which stays as it is, or the queue is popped
+pub data Source : Type 0 where
+  ahead : Pair → Source
+  pops : Source
+
+-- an owed repeat goes ahead
+abbrev pub sourceBy : Owed → Source
+sourceBy (owed.Repeat p) = ahead p
+sourceBy owed.Absent = pops
+
+abbrev pub source : Sending → Source
+source s = sourceBy (s .repeats .owed)
+
+abbrev pub sendFrom : Source → Queued → Send
+sendFrom (ahead p) q = record { pair = p; took = []; next = sendingOf q noRepeat }
+sendFrom pops q = sendPopped (pop q)
 
 unfoldable pub send : Sending → Send
-send s = sendOwed (s .repeats .owed) (s .queue)
+send s = sendFrom (source s) (s .queue)
 
 -- what is left after n sends
 abbrev pub sendTimes : ℕ → Sending → Sending

@@ -1,10 +1,11 @@
--- How many sends are left, exactly, from 01: a command goes out twice and text once, unless half a command goes first in
--- it; two single codes share a pair; and a command that needs a backspace has a space before it, in the pair of the single
+-- How many sends are left, exactly, and how many of them a drain makes, from 01: a command goes out twice, and text once,
+-- or twice where half a command goes first in it; two single codes share a pair; and a command that needs a backspace has a space before it, in the pair of the single
 -- code before it if there is one.
-use Prim.Native.Nat.{ℕ, _+_}
+use Prim.Native.Nat.{ℕ, _+_, _/_}
 use mathlib.Core.Bool.{Bool, true, false, cond}
 use mathlib.Core.List.{List, [], _∷_}
 use mathlib.Core.Option.{Option, none, some}
+use lib.Dec.{leb}
 use lib.ListN.{length, replicate}
 use Rattle.code.specs.Channel.{channelOne}
 use Rattle.code.specs.Code.{needsBackspace}
@@ -37,7 +38,15 @@ sendsForHeld none = 0
 sendsForHeld (some c) = copies c
 
 unfoldable pub sendsLeft : Sending → ℕ
-sendsLeft s = length (stillOwed (s .repeats .owed)) + sendsForHeld (s .queue .held) + sendsFor false (s .queue .waiting)
+sendsLeft s = length (stillOwed (s .repeats)) + sendsForHeld (s .queue .held) + sendsFor false (s .queue .waiting)
+
+-- the least of two
+abbrev pub least : ℕ → ℕ → ℕ
+least a b = cond (leb a b) a b
+
+-- how many sends a drain makes: its limit of pairs, the pairs that have room, or all that are left, whichever is least
+abbrev pub drainsExactly : ℕ → ℕ → Sending → ℕ
+drainsExactly limit room s = least limit (least (room / 2) (sendsLeft s))
 
 -- n copies of a code wait, and the code was sent once just before
 abbrev pub fullOf : Code → ℕ → Sending

@@ -2,7 +2,7 @@
 ghost use mathlib.Core.Bool.{true};
 ghost use mathlib.Core.Path.{_≡_};
 ghost use Rattle.sender.specs.Drain.{drainOutcome, drainSender};
-ghost use Rattle.sender.specs.Next.{filling, progressOutcome, senderAt};
+ghost use Rattle.sender.specs.Parts.{filling, writingOutcome, senderAt};
 ghost use Rattle.sender.specs.Sender.{wellFormed};
 use crate::idle::has_nothing;
 use crate::send::step_of;
@@ -24,7 +24,7 @@ pub struct Drained {
 }
 
 // How far a writer of pairs has come: the sends, and the parts of the state that they change.
-pub(crate) struct Progress {
+pub(crate) struct Writing {
     pub sends: usize,
     pub start: usize,
     pub waiting: usize,
@@ -35,9 +35,9 @@ pub(crate) struct Progress {
 impl Sender {
     // The writer of pairs: fills a part of the output from its beginning, until idle, out of room or at the limit. No
     // place of the ring changes, so that the ring is copied once.
-    pub(crate) fn write_pairs(self, part: &mut [u8], limit: usize) -> Progress
+    pub(crate) fn write_pairs(self, part: &mut [u8], limit: usize) -> Writing
         requires { ⌜ wellFormed self ≡ true ⌝ }
-        ensures { λ r. ⌜ progressOutcome self r (now (part .exit)) ≡ filling self (now (part .entry)) limit ⌝ }
+        ensures { λ r. ⌜ writingOutcome self r (now (part .exit)) ≡ filling self (now (part .entry)) limit ⌝ }
     {
         let room = part.len();
         let queue = self.queue;
@@ -73,7 +73,7 @@ impl Sender {
             at += 2;
             sends += 1;
         }
-        Progress {
+        Writing {
             sends: sends,
             start: start,
             waiting: waiting,
@@ -83,7 +83,7 @@ impl Sender {
     }
 
     // The sender once so much is sent.
-    pub(crate) fn after(self, done: Progress) -> Sender
+    pub(crate) fn sender_at(self, done: Writing) -> Sender
         ensures { λ r. ⌜ r ≡ senderAt self done ⌝ }
     {
         let queue = self.queue;
@@ -121,7 +121,7 @@ impl Sender {
         let sends = done.sends;
         Drained {
             answer: DrainAnswer::Sends(sends),
-            sender: self.after(done),
+            sender: self.sender_at(done),
         }
     }
 }

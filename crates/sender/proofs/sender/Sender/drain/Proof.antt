@@ -35,8 +35,8 @@ write-pairs-requires c κs =
     let tested = c .before .before .before .is-well-formed in
     sym (tested .ensures) ∙ not-false (tested .result) (c .before .before .if1 .left)
 
-after-requires : tie.Need-after-requires
-after-requires c κs = search needs
+sender-at-requires : tie.Need-sender-at-requires
+sender-at-requires c κs = search needs
 
 same-length : tie.Need-same-length
 same-length c = search needs
@@ -46,7 +46,7 @@ returns-3 c =
     let at = c .before .before .before .before .before in
     let args = at .before .before .before .before .args in
     let tested = at .before .before .is-well-formed in
-    rw (c .after .ensures)
+    rw (c .sender-at .ensures)
     (lent-part-is-drained (args .self) (args .out .now) (args .start) (args .limit) (c .before .before .before .write-pairs .result) _ (sym (tested .ensures) ∙ not-false (tested .result) (at .before .if1 .left)) (at .if2 .left) (c .before .before .before .write-pairs .ensures))
 
 pub drain-spec : {M : Type 1} → statement M
@@ -60,6 +60,6 @@ drain-spec =
     part-write-pairs-start
     part-write-pairs-end
     write-pairs-requires
-    after-requires
+    sender-at-requires
     same-length
     returns-3)
