@@ -3,6 +3,7 @@ use crate::event_bytes::point;
 use crate::from_bytes;
 use crate::query::not_a_query;
 use crate::to_bytes;
+use crate::to_bytes::one;
 use code::Channel;
 use code::Character;
 use code::Code;
@@ -54,13 +55,6 @@ fn of_code(asked: [u8; 16]) -> [u8; 16] {
         0x06 => from_char(asked),
         _ => not_a_query(),
     }
-}
-
-// An answer of one byte, as a refusal is.
-fn one(first: u8) -> [u8; 16] {
-    let mut out = [0u8; 16];
-    out[0] = first;
-    out
 }
 
 fn read(first: u8, second: u8) -> [u8; 16] {

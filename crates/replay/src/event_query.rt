@@ -3,6 +3,7 @@ use crate::event_bytes;
 use crate::from_bytes;
 use crate::query::not_a_query;
 use crate::to_bytes;
+use crate::to_bytes::one;
 use code::Channel;
 use code::Field;
 use event::Cea608;
@@ -27,12 +28,6 @@ pub(crate) fn answer(asked: [u8; 16]) -> [u8; 16] {
         0x25 => id(Field(asked[1] == 1), from_bytes::channel(asked[2])),
         _ => not_a_query(),
     }
-}
-
-fn one(first: u8) -> [u8; 16] {
-    let mut out = [0u8; 16];
-    out[0] = first;
-    out
 }
 
 // The query with its event where other queries have it, one byte earlier.

@@ -5,6 +5,7 @@ use crate::queue_query;
 use crate::receiver_query;
 use crate::sender_query;
 use crate::sender_query::SenderAnswered;
+use crate::to_bytes::one;
 use receiver::Cea608State;
 use sender::Sender;
 
@@ -30,9 +31,7 @@ pub(crate) fn fresh() -> State {
 
 // What is not in the format.
 pub(crate) fn not_a_query() -> [u8; 16] {
-    let mut out = [0u8; 16];
-    out[0] = 0xFF;
-    out
+    one(0xFF)
 }
 
 // The answer to a query.

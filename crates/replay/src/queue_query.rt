@@ -2,6 +2,7 @@
 ghost use Prim.Native.Nat.{_<_};
 use crate::from_bytes;
 use crate::query::not_a_query;
+use crate::to_bytes::one;
 use code::Code;
 use queue::CountAnswer;
 use queue::Held;
@@ -72,12 +73,6 @@ fn told(answer: [u8; 16], queue: Queue) -> QueueAnswered {
     }
 }
 
-pub(crate) fn refusal(number: u8) -> [u8; 16] {
-    let mut out = [0u8; 16];
-    out[0] = number;
-    out
-}
-
 fn push(queue: Queue, code: Code) -> QueueAnswered {
     let pushed = queue.push(code);
     let next = pushed.queue;
@@ -87,12 +82,12 @@ fn push(queue: Queue, code: Code) -> QueueAnswered {
 
 pub(crate) fn push_bytes(answer: PushAnswer) -> [u8; 16] {
     match answer {
-        PushAnswer::Accepted => refusal(0),
-        PushAnswer::UnknownByte => refusal(2),
-        PushAnswer::NoSuchRow => refusal(3),
-        PushAnswer::NotACommand => refusal(18),
-        PushAnswer::Full => refusal(7),
-        PushAnswer::IllFormed => refusal(12),
+        PushAnswer::Accepted => one(0),
+        PushAnswer::UnknownByte => one(2),
+        PushAnswer::NoSuchRow => one(3),
+        PushAnswer::NotACommand => one(18),
+        PushAnswer::Full => one(7),
+        PushAnswer::IllFormed => one(12),
     }
 }
 
@@ -111,7 +106,7 @@ pub(crate) fn pop_bytes(answer: PopAnswer) -> [u8; 16] {
             out[2] = pair.1;
             out
         }
-        PopAnswer::IllFormed => refusal(12),
+        PopAnswer::IllFormed => one(12),
     }
 }
 
@@ -145,7 +140,7 @@ pub(crate) fn count_bytes(answer: CountAnswer) -> [u8; 16] {
                 0,
             ]
         }
-        CountAnswer::IllFormed => refusal(12),
+        CountAnswer::IllFormed => one(12),
     }
 }
 
@@ -248,8 +243,7 @@ fn numbers(queue: Queue) -> [u8; 16] {
 
 // A number's two bytes, the lower first, after a first byte.
 fn number_after(first: u8, number: u16) -> [u8; 16] {
-    let mut out = [0u8; 16];
-    out[0] = first;
+    let mut out = one(first);
     out[1] = (number % 256) as u8;
     out[2] = (number / 256) as u8;
     out

@@ -4,6 +4,7 @@ ghost use lib.ListN.{length};
 use crate::from_bytes;
 use crate::query::not_a_query;
 use crate::queue_query;
+use crate::to_bytes::one;
 use code::Code;
 use code::Pair;
 use sender::DrainAnswer;
@@ -115,7 +116,7 @@ fn idle_bytes(answer: IdleAnswer) -> [u8; 16] {
             out
         }
         IdleAnswer::Busy => out,
-        IdleAnswer::IllFormed => queue_query::refusal(12),
+        IdleAnswer::IllFormed => one(12),
     }
 }
 

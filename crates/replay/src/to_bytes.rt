@@ -16,6 +16,13 @@ pub(crate) struct CodeBytes {
     pub z: u8,
 }
 
+// An answer of one byte, as a refusal is.
+pub(crate) fn one(first: u8) -> [u8; 16] {
+    let mut out = [0u8; 16];
+    out[0] = first;
+    out
+}
+
 pub(crate) fn flag(b: bool) -> u8 {
     if b { 1 } else { 0 }
 }
