@@ -22,8 +22,8 @@ use Rattle.code.specs.declared.control.ControlCode.{ControlCode}
 use Rattle.code.specs.declared.pair.Pair.{Pair}
 use Rattle.queue.specs.Queueable.{queueable}
 
--- the code of a number: a command by what its two bytes mean, with 14 for 15 where it names a field, or by its bytes
--- alone where it is an `Unknown`; a single code by its byte, which is an `Unknown` too below 20
+-- the code of a number: a command by what its two bytes mean, which are 14 and not 15 where it names a field, or by its
+-- bytes alone where it is an `Unknown`; a single code by its byte, which is an `Unknown` too below 20
 abbrev pub firstIn : ℕ → ℕ
 firstIn n = 0x10 + n / 128 % 16
 
@@ -66,6 +66,7 @@ channelNumber c = cond (c .0) 0 0x1000
 abbrev pub whoseNumber : ControlCode → ℕ
 whoseNumber c = fieldNumber (c .field) + channelNumber (c .channel)
 
+-- a code without bytes is refused before its number matters
 abbrev pub numberIn : Outcome Pair → ℕ
 numberIn (answer p) = bytesNumber p
 numberIn (refused n) = 0

@@ -1,6 +1,6 @@
 // The number that stands for a code at a place of the ring. A command's number has its two bytes, its channel, its field
-// and whether it is an `Unknown`; a single code's has its byte. Every number of 16 bits stands for a code that may wait,
-// so that no place needs a test, and a pair is made from the number alone.
+// and whether it is an `Unknown`; a single code's has its byte, and whether it is an `Unknown`. Every number of 16 bits
+// stands for a code that may wait, so that no place needs a test, and a pair is made from the number alone.
 ghost use mathlib.Core.Path.{_≡_};
 ghost use Prim.Native.Nat.{_≤_, _<_};
 ghost use Rattle.code.specs.Code.{needsBackspace};
