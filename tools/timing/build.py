@@ -1,4 +1,4 @@
-"""Builds what is timed, ours and the crate's, for this very processor.
+"""Builds what is timed, ours and the crate's, for this machine's kind of processor, neither for its model.
 
 Ours is proved by rt, which builds it for x86-64 alone. Here the same sources are compiled without a proof: of the program
 behind `rt try` the module is kept that it hands to the compiler, and compiled once more. Only times are taken from it."""
@@ -63,7 +63,7 @@ def build_ours(name, main, libraries):
     # It says of each function that it does not know the x86-64 that the module names.
     done = subprocess.run([toolchain / "bin/clang", target, *compiled], stderr=subprocess.PIPE, text=True)
     if done.returncode:
-        sys.exit(f"bench: {name} is not compiled for this processor:\n{done.stderr}")
+        sys.exit(f"bench: {name} is not compiled for this machine:\n{done.stderr}")
     program = BUILT / name
     subprocess.run(["gcc", "-O2", module.with_suffix(".o"), HERE / "os.c", "-o", program], check=True)
     return program

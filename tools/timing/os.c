@@ -1,4 +1,4 @@
-/* What the kit's library os has in C, for a program that is compiled for this very processor to be timed. */
+/* What the kit's library os has in C, for a program that is compiled for this machine to be timed. */
 #include <errno.h>
 #include <fcntl.h>
 #include <stddef.h>
