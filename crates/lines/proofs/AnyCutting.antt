@@ -32,14 +32,14 @@ use Rattle.receiver.specs.declared.state.Cea608State.{Cea608State}
 
 -- a state that calls leave of a fresh one. Where it has not ended, its counts are those of a stream within the limit,
 -- and there is room for the last lines after what waits
-pub record Open (l : Listing) : Type 0 where
-  pub pairs : l .pairs ≤ mostPairs
-  pub refused : l .refused ≤ l .pairs
-  pub begun : Begun (l .line)
-  pub ahead : l .line .at ≤ l .line .len
-  pub short : l .line .len ≤ 42
+record Open (l : Listing) : Type 0 where
+  pairs : l .pairs ≤ mostPairs
+  refused : l .refused ≤ l .pairs
+  begun : Begun (l .line)
+  ahead : l .line .at ≤ l .line .len
+  short : l .line .len ≤ 42
 
-abbrev pub Sound : Listing → Type 0
+abbrev Sound : Listing → Type 0
 Sound l = (l .ended ≡ false) → Open l
 
 -- a state that has not ended has still to write what waits, and the listing of the rest
@@ -106,7 +106,7 @@ module _ (l : Listing) (on : l .ended ≡ false) (o : Open l) (quiet : pending (
       ∙ sym (refused-says l emptyLine empty-begun (omega arith) (omega arith) 10 rest (o .pairs) (omega (arith, o .pairs, o .refused)) ten-short)
   absorbed-by false e a rest = byte-says (l .half) a rest e
 
-  pub a-byte-says-the-same : (a : ℕ) (rest : List ℕ) → saysYet l (a ∷ rest) ≡ saysYet (absorbed l a) rest
+  a-byte-says-the-same : (a : ℕ) (rest : List ℕ) → saysYet l (a ∷ rest) ≡ saysYet (absorbed l a) rest
   unfolding absorbed
   a-byte-says-the-same a rest =
       open-says l (a ∷ rest) on
@@ -221,7 +221,7 @@ module _ (l : Listing) (sound : Sound l) (a : ℕ) (rest more : List ℕ) (room 
   unless-stopped false e true f next = only-flushed l sound (a ∷ rest) more room
   unless-stopped false e false f next = goes-on e f (next e)
 
-pub a-piece-says-the-same : (input : List ℕ) (l : Listing) → Sound l → (more : List ℕ) (room : ℕ) → Goes l input more (pieceOf l input room)
+a-piece-says-the-same : (input : List ℕ) (l : Listing) → Sound l → (more : List ℕ) (room : ℕ) → Goes l input more (pieceOf l input room)
 a-piece-says-the-same [] l sound more room = only-flushed l sound [] more room
 a-piece-says-the-same (a ∷ rest) l sound more room =
     unless-stopped l sound a rest more room (l .ended) refl (ltb room (waiting (l .line))) refl
@@ -244,7 +244,7 @@ end-by l o (half.Byte x) = by-limit (leb mostPairs (l .pairs))
     by-limit true = refused-by 10 ten-short
     by-limit false = refused-by 9 (omega (arith, nine-short))
 
-pub the-end-says-the-same : (l : Listing) → Sound l → saysYet l [] ≡ saysYet (endedListing l) []
+the-end-says-the-same : (l : Listing) → Sound l → saysYet l [] ≡ saysYet (endedListing l) []
 unfolding endedListing
 the-end-says-the-same l sound = by-ended (l .ended) refl
   where
@@ -253,14 +253,14 @@ the-end-says-the-same l sound = by-ended (l .ended) refl
     by-ended false e = open-says l [] e ∙ end-by l (sound e) (l .half)
 
 -- what every run keeps: what it wrote, then what its state has still to write, is the listing of the whole
-pub record Kept (bytes : List ℕ) (r : Run) : Type 0 where
-  pub sound : Sound (r .listing)
-  pub text : listing bytes ≡ r .text ++ saysYet (r .listing) (r .left)
+record Kept (bytes : List ℕ) (r : Run) : Type 0 where
+  sound : Sound (r .listing)
+  text : listing bytes ≡ r .text ++ saysYet (r .listing) (r .left)
 
 fresh-open : Open freshListing
 fresh-open = record { pairs = omega arith; refused = omega arith; begun = empty-begun; ahead = omega arith; short = omega arith }
 
-pub began-kept : (bytes : List ℕ) → Kept bytes (began freshListing bytes)
+began-kept : (bytes : List ℕ) → Kept bytes (began freshListing bytes)
 unfolding listing
 began-kept bytes = record { sound = λ (on : false ≡ false). fresh-open; text = refl }
 
@@ -297,7 +297,7 @@ cut-kept bytes c r k =
           ∙ sym (append-assoc (r .text) (p .text) (saysYet (p .next) (drop (p .taken) (r .left))));
     }
 
-pub cuts-kept : (bytes : List ℕ) (cs : List Cut) (r : Run) → Kept bytes r → Kept bytes (cutAll cs r)
+cuts-kept : (bytes : List ℕ) (cs : List Cut) (r : Run) → Kept bytes r → Kept bytes (cutAll cs r)
 cuts-kept bytes [] r k = k
 cuts-kept bytes (c ∷ cs) r k = cuts-kept bytes cs (cutOnce c r) (cut-kept bytes c r k)
 
@@ -315,7 +315,7 @@ end-sound l = by-ended (l .ended) refl (l .half)
     by-ended false e half.Absent on = absurd (true≢false on)
     by-ended false e (half.Byte x) on = absurd (true≢false on)
 
-pub end-kept : (bytes : List ℕ) (r : Run) → Finished r → Kept bytes r → Kept bytes (atEnd r)
+end-kept : (bytes : List ℕ) (r : Run) → Finished r → Kept bytes r → Kept bytes (atEnd r)
 end-kept bytes r finished k = record {
   sound = end-sound (r .listing);
   text =

@@ -43,7 +43,7 @@ not-reached : (p : ℕ) (ps : List ℕ) (n : ℕ) → n < p → length (atPlaces
 not-reached p ps n less = rw (lt-leb p n less) (places-short ps n)
 
 -- a number has at most ten digits, and one below a hundred millions at most eight
-pub decimal-short : (n : ℕ) → length (decimal n) ≤ 10
+decimal-short : (n : ℕ) → length (decimal n) ≤ 10
 unfolding decimal
 decimal-short n = places-short (1000000000 ∷ 100000000 ∷ 10000000 ∷ 1000000 ∷ 100000 ∷ 10000 ∷ 1000 ∷ 100 ∷ 10 ∷ []) n
 
@@ -81,7 +81,7 @@ event-short (event.Preamble ch p) =
 event-short (event.MidRowChange ch m) =
     omega (arith, decimal-short (midRowNumber m), length-append (decimal (midRowNumber m)) (0x20 ∷ flagDigit (isUnderlined m) ∷ []))
 
-pub line-short : (k n : ℕ) (words : List ℕ) → k < 100000000 → length words ≤ n → length (line k words) ≤ n + 10
+line-short : (k n : ℕ) (words : List ℕ) → k < 100000000 → length words ≤ n → length (line k words) ≤ n + 10
 line-short k n words less short =
     omega (arith, short, eight-digits k less, length-append (decimal k) (0x20 ∷ (words ++ (0x0A ∷ []))), length-append words (0x0A ∷ []))
 

@@ -146,7 +146,7 @@ module _ (bytes : List ℕ) where
   done-so : isDone (afterEnd (through start) .listing) ≡ true
   done-so = ap (λ (r : Run). isDone (r .listing)) last-so ∙ end-is-ended (whole .next)
 
-  pub in-one-go : whole .text ++ pending (ended .line) ≡ listing bytes
+  in-one-go : whole .text ++ pending (ended .line) ≡ listing bytes
   in-one-go =
       sym (ap (λ (r : Run). r .text) last-so)
       ∙ sym (ap (λ (r : Run). afterEnd r .text) read-so)

@@ -7,8 +7,8 @@ use Prim.Native.Nat.{ℕ, zero, suc, _+_, _≤_, _<_}
 use native.Mathlib.Omega.{arith}
 use borrow.Author.Tests.{le-ltb, leb-false, leb-true, lt-ltb, ltb-false, ltb-true}
 use lib.Dec.{leb, ltb}
-use lib.ListN.{getD, length, length-append, length-take}
-use Rattle.lines.proofs.Memory.{from-length, written-and-waiting}
+use lib.ListN.{getD, length, length-take}
+use Rattle.lines.proofs.Memory.{from-length}
 use Rattle.lines.specs.Line.{bytesFrom, emptyLine, hasMore, lineLength, pending, unwritten, waiting, writes}
 use Rattle.lines.specs.declared.line.Line.{Line}
 
@@ -78,11 +78,6 @@ left-where-more l room = by-room (ltb room (waiting l)) refl
     by-room : (t : Bool) → ltb room (waiting l) ≡ t → hasMore (cond t (record { bytes = l .bytes; at = l .at + room; len = l .len }) emptyLine) ≡ t
     by-room true more = lt-ltb 0 (waiting (record { bytes = l .bytes; at = l .at + room; len = l .len })) (omega (arith, ltb-true room (waiting l) more))
     by-room false none = refl
-
--- what is written and what is left are together what waited
-pub written-and-left : (l : Line) (room : ℕ) → waiting (unwritten l room) + length (writes l room) ≡ waiting l
-written-and-left l room =
-    omega (arith, how-many l, how-many (unwritten l room), ap length (written-and-waiting l room), length-append (writes l room) (pending (unwritten l room)))
 
 pub empty-where-no-more : (l : Line) (room : ℕ) → ltb room (waiting l) ≡ false → unwritten l room ≡ emptyLine
 empty-where-no-more l room none = rw none refl
