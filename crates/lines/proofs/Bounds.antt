@@ -1,4 +1,4 @@
--- How long lines are: none is longer than a line's memory, and the last ones fit after any other.
+-- How long lines of text are: none is longer than a line's memory, and the last ones fit after any other.
 -- Assumes nothing.
 use mathlib.Core.Bool.{Bool, true, false, cond}
 use mathlib.Core.List.{List, [], _∷_, _++_}

@@ -1,5 +1,5 @@
--- A line's memory: bytes put into an empty line are those that wait, and what is written of them and what waits then are
--- together what waited.
+-- The memory of a line of text: bytes put into an empty line are those that wait, and what is written of them and what waits
+-- then are together what waited.
 -- Assumes nothing.
 use mathlib.Core.Bool.{Bool, true, false, cond}
 use mathlib.Core.List.{List, [], _∷_, _++_, append-assoc, append-nil}

@@ -1,4 +1,4 @@
--- What waits of a line: how much, and the bytes at its places.
+-- What waits of a line of text: how much, and the bytes at its places.
 -- Assumes nothing.
 use mathlib.Core.Bool.{Bool, true, false, cond}
 use mathlib.Core.List.{List}

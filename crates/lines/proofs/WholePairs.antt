@@ -1,5 +1,5 @@
--- A whole pair between two lines: its line goes straight into the output, where there is room for any line, and the reading
--- comes to the same as byte by byte.
+-- A whole pair between two lines of text: its line goes straight into the output, where there is room for any line, and the
+-- reading comes to the same as byte by byte.
 -- Assumes nothing.
 use mathlib.Core.Bool.{Bool, false}
 use mathlib.Core.List.{List, _++_}
@@ -52,34 +52,35 @@ module _ (input : List ℕ) (taken : ℕ) (s : Cea608State) (k q : ℕ) (output 
   short : length w ≤ 42
   short = pair-fits s (pair (getD input taken 0) (getD input (taken + 1) 0)) k less
 
-  abbrev after : Listing
-  after = afterPair (betweenPairs s k q) heard
+  -- both bytes are taken, and the line of the pair waits
+  abbrev lineWaits : Listing
+  lineWaits = afterPair (betweenPairs s k q) heard
 
-  waits : pending (after .line) ≡ w
+  waits : pending (lineWaits .line) ≡ w
   waits = all-said w emptyLine empty-begun (omega arith) (omega (arith, short)) .waits
 
-  how-much : waiting (after .line) ≡ length w
-  how-much = sym (how-many (after .line)) ∙ ap length waits
+  how-much : waiting (lineWaits .line) ≡ length w
+  how-much = sym (how-many (lineWaits .line)) ∙ ap length waits
 
-  said-is : writes (after .line) (length output - written) ≡ w
+  said-is : writes (lineWaits .line) (length output - written) ≡ w
   said-is = ap (take (length output - written)) waits ∙ take-all (length output - written) w (omega (arith, short, room))
 
-  both-taken : comesTo input (taken + 2) after output written ≡ comesTo input taken (betweenPairs s k q) output written
+  both-taken : comesTo input (taken + 2) lineWaits output written ≡ comesTo input taken (betweenPairs s k q) output written
   both-taken =
       let two : taken + 2 ≡ taken + 1 + 1 = omega arith in
       let a = getD input taken 0 in
       let b = getD input (taken + 1) 0 in
-      ap (λ (n : ℕ). comesTo input n after output written) two
-      ∙ byte-taken input (taken + 1) (withHalf (betweenPairs s k q) a) output written (omega (arith, whole)) refl refl after (sym (second-byte s k q a b less))
+      ap (λ (n : ℕ). comesTo input n lineWaits output written) two
+      ∙ byte-taken input (taken + 1) (withHalf (betweenPairs s k q) a) output written (omega (arith, whole)) refl refl lineWaits (sym (second-byte s k q a b less))
       ∙ byte-taken input taken (betweenPairs s k q) output written (omega (arith, whole)) refl refl (withHalf (betweenPairs s k q) a) (sym (first-byte s k q a less))
 
   straight : (next : Placed) → next ≡ putAll (written, output) w → comesTo input (taken + 2) (betweenPairs (heard .1) (k + 1) (counted (heard .0) q)) (next .1) (next .0) ≡ comesTo input taken (betweenPairs s k q) output written
   straight next put =
       let placed = put ∙ all-places w written output (omega (arith, short, room)) in
-      let quiet : ltb (length output - written) (waiting (after .line)) ≡ false = le-ltb (length output - written) (waiting (after .line)) (omega (arith, how-much, short, room)) in
-      ap (λ (x : Placed). comesTo input (taken + 2) (withLine after emptyLine) (x .1) (x .0)) placed
-      ∙ ap (λ (t : List ℕ). comesTo input (taken + 2) (withLine after emptyLine) (take written output ++ over t (drop written output)) (written + length t)) (sym said-is)
-      ∙ goes-on after output written (omega (arith, room)) input (taken + 2) refl quiet
+      let quiet : ltb (length output - written) (waiting (lineWaits .line)) ≡ false = le-ltb (length output - written) (waiting (lineWaits .line)) (omega (arith, how-much, short, room)) in
+      ap (λ (x : Placed). comesTo input (taken + 2) (withLine lineWaits emptyLine) (x .1) (x .0)) placed
+      ∙ ap (λ (t : List ℕ). comesTo input (taken + 2) (withLine lineWaits emptyLine) (take written output ++ over t (drop written output)) (written + length t)) (sym said-is)
+      ∙ goes-on lineWaits output written (omega (arith, room)) input (taken + 2) refl quiet
       ∙ both-taken
 
   -- the same with what the receiver, the count and the put were found to be

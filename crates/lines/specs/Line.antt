@@ -1,4 +1,4 @@
--- A line that waits to be written: the bytes of a memory between two places. The port's own words.
+-- A line of text that waits to be written: the bytes of a memory between two places. The port's own words.
 use Prim.Native.Nat.{ℕ, zero, suc, _+_, _-_}
 use mathlib.Core.Bool.{Bool, cond}
 use mathlib.Core.List.{List, [], _∷_, _++_}

@@ -23,7 +23,7 @@ onceRead taken written output p = (taken + p .taken, written + length (p .text),
 abbrev pub comesTo : List ℕ → ℕ → Listing → List ℕ → ℕ → Read
 comesTo input taken l output written = onceRead taken written output (pieceOf l (drop taken input) (length output - written))
 
--- between two lines: nothing waits, the stream goes on, and the places are inside
+-- between two lines of text: nothing waits, the stream goes on, and the places are inside
 abbrev pub Between : List ℕ → ℕ → Listing → List ℕ → ℕ → Type 0
 Between input taken l output written = (l .line ≡ emptyLine) × (l .ended ≡ false) × (taken ≤ length input) × (written ≤ length output)
 
