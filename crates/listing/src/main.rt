@@ -2,13 +2,12 @@
 //
 // Where a file cannot be opened, or a read or a write fails, standard error says so and the program stops. The listing that
 // it was in then has no last line, and no later file is listed.
-ghost use mathlib.Core.Bool.{cond, false};
-ghost use mathlib.Core.Logic.{_⊎_};
+ghost use mathlib.Core.Bool.{cond};
 ghost use mathlib.Core.Path.{_≡_};
-ghost use Prim.Native.Nat.{ℕ, _<_};
-ghost use lib.ListN.{length, take};
-ghost use Rattle.lines.specs.Loops.{afterBlock};
+ghost use Prim.Native.Nat.{_<_};
+ghost use lib.ListN.{length};
 ghost use Rattle.lines.specs.Pieces.{wholePiece};
+ghost use Rattle.listing.specs.Block.{AfterRead};
 use libc::STDERR_FILENO;
 use libc::STDIN_FILENO;
 use libc::STDOUT_FILENO;
@@ -53,15 +52,17 @@ fn list_file(word: usize, input: &mut [u8], output: &mut [u8]) -> bool
     whole
 }
 
-// Lists all that a descriptor has. A proved loop has to end, and nothing says that a stream does. So the turns are counted
-// down, from a number that no run uses up.
+// Lists all that a descriptor has. A read takes what there is, as much as there is room for, and its lines are written before
+// the next, so that those of a live stream do not wait. A proved loop has to end, and nothing says that a stream does. So the
+// turns are counted down, from a number that no run uses up.
 fn list_stream(from: i32, name: &[u8], input: &mut [u8], output: &mut [u8]) -> bool
     requires { ⌜ 0 < length (now output) ⌝ }
 {
     let mut listing = Listing::new();
     let mut turns = u64::MAX;
     while turns > 0 {
-        let done = list_block(from, name, input, output, listing);
+        let got = libc::read(from, input);
+        let done = list_block(got, os::errno(), name, input, output, listing);
         if done.failed {
             return false;
         }
@@ -81,18 +82,23 @@ struct Done {
     listing: Listing,
 }
 
-// Reads what there is, as much as there is room for, and writes its lines, so that those of a live stream do not wait. No
-// bytes are the end of the stream; a read that a signal interrupted is made again.
-fn list_block(from: i32, name: &[u8], input: &mut [u8], output: &mut [u8], begun: Listing) -> Done
+// The listing after a read that answered so, and left this error number. No bytes are the end of the stream; after a read that
+// a signal interrupted the listing is as it was, and nothing has failed, so that it is made again.
+fn list_block(
+    got: isize,
+    error: i32,
+    name: &[u8],
+    input: &[u8],
+    output: &mut [u8],
+    begun: Listing,
+) -> Done
     requires { ⌜ 0 < length (now output) ⌝ }
-    ensures { λ r. ⌜ (r .failed ≡ false → (r .listing ≡ begun) ⊎ ((n : ℕ) × (r .listing ≡ afterBlock begun (take n (now (input .exit)))))) ⌝ }
+    ensures { λ r. ⌜ AfterRead got error begun (now (input .entry)) r ⌝ }
 {
-    let got = libc::read(from, input);
     if got < 0 {
-        let mut failed = false;
-        if os::errno() != libc::EINTR {
+        let failed = error != libc::EINTR;
+        if failed {
             fail(name);
-            failed = true;
         }
         return Done {
             failed: failed,

@@ -1,39 +1,26 @@
--- `listing::list_block` meets its contract: the state is as it was where nothing was read, else that after a block.
+-- `listing::list_block` meets its contract, by whether the read failed, and whether it read any bytes.
 -- Assumes nothing.
 use borrow.Author.Needs.{needs}
-use mathlib.Core.Logic.{inl, inr}
-use mathlib.Core.Path.{refl}
 use native.Mathlib.Omega.{arith}
-use Rattle.listing.proofs.Blocks.{after-some, after-the-end}
+use Rattle.listing.proofs.Blocks.{after-some, after-the-end, of-bytes, of-nothing}
 use Rattle.listing.proofs.list_block.Statement.{statement}
 use Rattle.listing.proofs.list_block.Tie as tie
-
-read-requires : tie.Need-read-requires
-read-requires c κs = search needs
-
-errno-requires : tie.Need-errno-requires
-errno-requires c κs = search needs
 
 fail-requires : tie.Need-fail-requires
 fail-requires c κs = search needs
 
-same-length : tie.Need-same-length
-same-length c = search needs
-
 returns : tie.Need-returns
-returns c = λ fine. inl refl
-
-same-length-2 : tie.Need-same-length-2
-same-length-2 c = search needs
+returns c =
+    let start = c .before .before .before .before .before .before in
+    of-nothing (start .args .got) (start .args .error) (start .fits .got) (start .args .begun) (start .args .input .now) (start .fits .error) (c .before .before .if1 .taken)
 
 returns-2 : tie.Need-returns-2
-returns-2 c = λ fine. inl refl
+returns-2 c =
+    let start = c .before .before .before .before .before in
+    of-nothing (start .args .got) (start .args .error) (start .fits .got) (start .args .begun) (start .args .input .now) (start .fits .error) (c .before .if1 .taken)
 
 count-requires : tie.Need-count-requires
 count-requires c κs = search needs
-
-slice-reshare-prefix-write-lines : tie.Need-slice-reshare-prefix-write-lines
-slice-reshare-prefix-write-lines c = search needs
 
 slice-aggregate-write-lines : tie.Need-slice-aggregate-write-lines
 slice-aggregate-write-lines c = search needs
@@ -44,18 +31,16 @@ end-requires c κs = search needs
 write-lines-requires : tie.Need-write-lines-requires
 write-lines-requires c κs = search needs
 
-same-length-3 : tie.Need-same-length-3
-same-length-3 c = search needs
-
-same-length-4 : tie.Need-same-length-4
-same-length-4 c = search needs
+same-length : tie.Need-same-length
+same-length c = search needs
 
 returns-3 : tie.Need-returns-3
 returns-3 c =
-    λ fine. inr (c .before .before .before .before .before .before .before .count .result, after-the-end (c .before .before .before .before .before .before .before .before .before .before .before .before .before .before .before .before .before .args .begun) _ _ _ _ fine (c .before .before .before .before .before .before .if3 .taken) _ (c .before .before .before .end .ensures) (c .before .before .write-lines .ensures))
-
-slice-reshare-prefix-write-lines-2 : tie.Need-slice-reshare-prefix-write-lines-2
-slice-reshare-prefix-write-lines-2 c = search needs
+    let start = c .before .before .before .before .before .before .before .before .before .before .before .before in
+    let read = c .before .before .before .before .before .before .before .count in
+    let test = c .before .before .before .before .before .before .before .before .if1 in
+    of-bytes (start .args .got) (start .args .error) (start .fits .got) (start .args .begun) (start .args .input .now) (c .before .before .write-lines .result) (read .result) (test .left) (read .ensures .1)
+    (λ fine. after-the-end (start .args .begun) _ _ _ _ fine (c .before .before .before .before .before .before .if3 .taken) _ (c .before .before .before .end .ensures) (c .before .before .write-lines .ensures))
 
 slice-aggregate-write-lines-2 : tie.Need-slice-aggregate-write-lines-2
 slice-aggregate-write-lines-2 c = search needs
@@ -63,38 +48,31 @@ slice-aggregate-write-lines-2 c = search needs
 write-lines-requires-2 : tie.Need-write-lines-requires-2
 write-lines-requires-2 c κs = search needs
 
-same-length-5 : tie.Need-same-length-5
-same-length-5 c = search needs
-
-same-length-6 : tie.Need-same-length-6
-same-length-6 c = search needs
+same-length-2 : tie.Need-same-length-2
+same-length-2 c = search needs
 
 returns-4 : tie.Need-returns-4
 returns-4 c =
-    λ fine. inr (c .before .before .before .before .before .before .count .result, after-some (c .before .before .before .before .before .before .before .before .before .before .before .before .before .before .before .before .args .begun) _ _ _ _ fine (omega (arith, c .before .before .before .before .before .if3 .left)) (c .before .before .before .before .before .before .count .ensures .0 .0) (c .before .before .write-lines2 .ensures))
+    let start = c .before .before .before .before .before .before .before .before .before .before .before in
+    let read = c .before .before .before .before .before .before .count in
+    let test = c .before .before .before .before .before .before .before .if1 in
+    of-bytes (start .args .got) (start .args .error) (start .fits .got) (start .args .begun) (start .args .input .now) (c .before .before .write-lines2 .result) (read .result) (test .left) (read .ensures .1)
+    (λ fine. after-some (start .args .begun) _ _ _ _ fine (omega (arith, c .before .before .before .before .before .if3 .left)) (read .ensures .0 .0) (c .before .before .write-lines2 .ensures))
 
 pub list-block-spec : {M : Type 1} → statement M
 list-block-spec =
     tie.close
     (tie.spec
-    read-requires
-    errno-requires
     fail-requires
-    same-length
     returns
-    same-length-2
     returns-2
     count-requires
-    slice-reshare-prefix-write-lines
     slice-aggregate-write-lines
     end-requires
     write-lines-requires
-    same-length-3
-    same-length-4
+    same-length
     returns-3
-    slice-reshare-prefix-write-lines-2
     slice-aggregate-write-lines-2
     write-lines-requires-2
-    same-length-5
-    same-length-6
+    same-length-2
     returns-4)

@@ -19,6 +19,12 @@ new-requires c κs = search needs
 loop-holds : tie.Need-loop-holds Inv-loop μ-loop
 loop-holds c = search needs
 
+read-requires : tie.Need-read-requires Inv-loop μ-loop
+read-requires c κs = search needs
+
+errno-requires : tie.Need-errno-requires Inv-loop μ-loop
+errno-requires c κs = search needs
+
 list-block-requires : tie.Need-list-block-requires Inv-loop μ-loop
 list-block-requires c κs = search needs
 
@@ -69,6 +75,8 @@ list-stream-spec =
     μ-loop
     new-requires
     loop-holds
+    read-requires
+    errno-requires
     list-block-requires
     same-length
     same-length-2
