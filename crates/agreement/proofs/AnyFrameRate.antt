@@ -158,7 +158,7 @@ caption =
 abbrev paddedCaption : List Pair
 paddedCaption = carriageReturn ∷ padding ∷ hi ∷ []
 
-pub the-same-words : words paddedCaption ≡ words (queuePairs caption freshSender)
+the-same-words : words paddedCaption ≡ words (queuePairs caption freshSender)
 unfolding ones onesIn writeCode inDomain queueable admit pairOf codeOf pop pushRing popRing ring.wellFormed wellFormed pushSender send sendSender drainSender onLine controlBytes meaning
 the-same-words = refl
 

@@ -78,7 +78,7 @@ one-doubled-first : (p : Pair) (ps qs : List Pair) (t : Bool) → cond t (p ∷ 
 one-doubled-first p ps qs true = refl
 one-doubled-first p ps qs false = refl
 
-pub doubled-by-parts : (ps qs : List Pair) → doubled (ps ++ qs) ≡ doubled ps ++ doubled qs
+doubled-by-parts : (ps qs : List Pair) → doubled (ps ++ qs) ≡ doubled ps ++ doubled qs
 doubled-by-parts [] qs = refl
 doubled-by-parts (p ∷ ps) qs =
     ap (λ (l : List Pair). cond (isCommandPair p) (p ∷ p ∷ l) (p ∷ l)) (doubled-by-parts ps qs)

@@ -79,7 +79,7 @@ pub what-it-is-made-of : packed programme freshSender ≡ record { pair = rollUp
 unfolding ones onesIn writeCode inDomain queueable admit pairOf codeOf pop pushRing popRing ring.wellFormed wellFormed pushSender send sendSender drainSender idleSender onLine controlBytes meaning
 what-it-is-made-of = refl
 
-pub what-is-meant : events (readOnce fresh (rollUp2 ∷ carriageReturn ∷ hi ∷ [])) ≡ modeEvent ∷ returnEvent ∷ hiEvent ∷ []
+what-is-meant : events (readOnce fresh (rollUp2 ∷ carriageReturn ∷ hi ∷ [])) ≡ modeEvent ∷ returnEvent ∷ hiEvent ∷ []
 unfolding readPair ones onesIn standard step eventOf textEvent modeOf charOf meaning controlCodeOf
 what-is-meant = refl
 

@@ -78,7 +78,7 @@ module _ (p q : Pair) (ps qs : List Pair) where
       let told = spared 1 ps (ap (λ (y : Pair). y ∷ ps) is) in
       absurd (omega (arith, told, counted p q [] (corrupted-is-another p q odd even)))
 
-pub pair-by-pair : (h : Option Pair) (sent arrived : List Pair) → AllOdd sent → Carried sent arrived → OneEachStretch sent arrived → Spared h sent arrived → OneByOne h sent arrived
+pair-by-pair : (h : Option Pair) (sent arrived : List Pair) → AllOdd sent → Carried sent arrived → OneEachStretch sent arrived → Spared h sent arrived → OneByOne h sent arrived
 pair-by-pair h sent arrived odd line.ends all spared = one.ends
 pair-by-pair h sent arrived odd (line.arrives {p = p} {ps = ps} {qs = qs} rest) all spared =
     one.arrives (pair-by-pair (goesOn h p) ps qs (odd .1) rest (further p p ps qs all) (spared-on p p ps qs h (wasCorrupted h p) refl (same-itself p) spared))

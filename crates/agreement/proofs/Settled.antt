@@ -46,7 +46,7 @@ module _ (s : Cea608State) (p : Pair) where
   unfolding step
   settled-step = settled-reading (readPair (p .0) (p .1)) refl
 
-pub stays-settled : (s : Cea608State) (ps : List Pair) → Settled s → Settled (after s ps)
+stays-settled : (s : Cea608State) (ps : List Pair) → Settled s → Settled (after s ps)
 stays-settled s [] settled = settled
 stays-settled s (p ∷ ps) settled = stays-settled (step s p .1) ps (settled-step s p settled)
 

@@ -23,7 +23,7 @@ use Rattle.queue.specs.declared.ring.Queue.{Queue}
 count-same : (q : Queue) → Good q → countRing q .1 ≡ q
 count-same q g = ap (λ (r : Outcome ℕ × Queue). r .1) (count-refines q g)
 
-pub call-stays-good : (c : Call) (q : Queue) → Good q → Good (onRing c q .1)
+call-stays-good : (c : Call) (q : Queue) → Good q → Good (onRing c q .1)
 call-stays-good (pushing x) q g = push-good q x g
 call-stays-good popping q g = pop-good q g
 call-stays-good counting q g = subst Good (sym (count-same q g)) g
@@ -34,7 +34,7 @@ calls-stay-good [] q g = g
 calls-stay-good (c ∷ cs) q g = calls-stay-good cs (onRing c q .1) (call-stays-good c q g)
 
 -- one call: the list's reply and next list are those of the ring
-pub call-agrees : (c : Call) (q : Queue) → Good q → onList c (view q) ≡ (onRing c q .0, view (onRing c q .1))
+call-agrees : (c : Call) (q : Queue) → Good q → onList c (view q) ≡ (onRing c q .0, view (onRing c q .1))
 call-agrees (pushing x) q g =
     ap {B = Reply × Queued} (λ (r : Outcome Unit × Queued). (toPush (r .0), r .1)) (sym (push-refines q x g))
 call-agrees popping q g =
@@ -66,7 +66,7 @@ pub record Kept (h : History) : Type 0 where
   pub good : Good (h .ring)
   pub order : InOrder h
 
-pub begun-kept : (q : Queue) → Good q → Kept (begun q)
+begun-kept : (q : Queue) → Good q → Kept (begun q)
 begun-kept q g = record { good = g; order = refl }
 
 push-kept : (x : Code) (h : History) → Kept h → Kept (recorded (pushing x) h)
@@ -113,7 +113,7 @@ call-kept popping h k = pop-kept h k
 call-kept counting h k = count-kept h k
 call-kept resetting h k = record { good = fresh-good; order = refl }
 
-pub calls-kept : (cs : List Call) (h : History) → Kept h → Kept (recordedAll cs h)
+calls-kept : (cs : List Call) (h : History) → Kept h → Kept (recordedAll cs h)
 calls-kept [] h k = k
 calls-kept (c ∷ cs) h k = calls-kept cs (recorded c h) (call-kept c h k)
 

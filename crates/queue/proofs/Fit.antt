@@ -19,7 +19,7 @@ use Rattle.queue.specs.Good.{Fit}
 use Rattle.queue.specs.Queue.{Pop, Queued, queued, admit, count, empty, entered, isSingle, mayBeHeld, mayWait, pop, push}
 use Rattle.queue.specs.Ring.{allMayWait}
 
-pub empty-fits : Fit empty
+empty-fits : Fit empty
 empty-fits = record { size = lit≤ tt; held = refl; codes = refl }
 
 -- `n_codes` is at most 65
@@ -48,7 +48,7 @@ pub push-fits : (c : Code) (v : Queued) → Fit v → Fit (push c v .1)
 push-fits c v f = entered-fits (admit c (length (v .waiting))) c v refl f
 
 -- a waiting code that is no single code may be held
-pub command-may-be-held : (c : Code) → isSingle c ≡ false → mayWait c ≡ true → mayBeHeld c ≡ true
+command-may-be-held : (c : Code) → isSingle c ≡ false → mayWait c ≡ true → mayBeHeld c ≡ true
 command-may-be-held c e may = rw (not-one-is-two c e) (may-queueable c may)
 
 -- what waits without the first code, and with nothing held

@@ -17,7 +17,7 @@ use Rattle.queue.specs.Ring.{freshRing, wellFormed}
 use Rattle.queue.specs.declared.ring.Queue.{Queue}
 
 -- one call
-pub call-refused : (c : Call) (q : Queue) → wellFormed q ≡ false → not (isReset c) ≡ true → onRing c q ≡ (illFormedReply c, q)
+call-refused : (c : Call) (q : Queue) → wellFormed q ≡ false → not (isReset c) ≡ true → onRing c q ≡ (illFormedReply c, q)
 call-refused (pushing x) q e stays =
     ap {B = Reply × Queue} (λ (r : Outcome Unit × Queue). (toPush (r .0), r .1)) (ill-formed-push q x e)
 call-refused popping q e stays =
@@ -61,7 +61,7 @@ pub fresh-from-reset : (before later : List Call) (q : Queue) → ringAfter (bef
 fresh-from-reset [] later q = refl
 fresh-from-reset (c ∷ before) later q = fresh-from-reset before later (onRing c q .1)
 
-pub history-from-reset : (before later : List Call) (h : History) → recordedAll (before ++ (resetting ∷ later)) h ≡ recordedAll later (begun freshRing)
+history-from-reset : (before later : List Call) (h : History) → recordedAll (before ++ (resetting ∷ later)) h ≡ recordedAll later (begun freshRing)
 history-from-reset [] later h = refl
 history-from-reset (c ∷ before) later h = history-from-reset before later (recorded c h)
 

@@ -38,7 +38,7 @@ use Rattle.queue.specs.Queue.{isSingle, mayWait, pairOf, pairWritten}
 use Rattle.queue.specs.Queueable.{isDressedControl, queueable, unlessDressed}
 
 -- a number of a single code, and of a command
-pub as-single : (n : ℕ) → 0x8000 ≤ n → codeOf n ≡ singleOf (n / 128 % 2) (secondIn n)
+as-single : (n : ℕ) → 0x8000 ≤ n → codeOf n ≡ singleOf (n / 128 % 2) (secondIn n)
 unfolding codeOf
 as-single n from = rw (le-leb 0x8000 n from) refl
 
@@ -49,7 +49,7 @@ commandOfNumber n = record {
   control = controlOf (n / 0x800 % 2) (firstIn n) (secondIn n);
 }
 
-pub as-command : (n : ℕ) → n < 0x8000 → codeOf n ≡ code.Control (commandOfNumber n)
+as-command : (n : ℕ) → n < 0x8000 → codeOf n ≡ code.Control (commandOfNumber n)
 unfolding codeOf
 as-command n below = rw (lt-leb 0x8000 n below) refl
 
@@ -93,7 +93,7 @@ bytes-by true a b from below less =
     agree-grid (λ (x y : ℕ). controlBytes (meantBy x y)) (λ (x y : ℕ). answer (pair x y)) 16 16 128 refl a b from below less
 bytes-by false a b from below less = rw (lt-ltb a 0x80 (omega arith), lt-ltb b 0x80 less) refl
 
-pub bytes-told : (n : ℕ) → controlBytes (commandOfNumber n .control) ≡ answer (pair (firstIn n) (secondIn n))
+bytes-told : (n : ℕ) → controlBytes (commandOfNumber n .control) ≡ answer (pair (firstIn n) (secondIn n))
 bytes-told n = bytes-by (eqb (n / 0x800 % 2) 0) (firstIn n) (secondIn n) (first-from n) (first-below n) (second-below n)
 
 -- and may be queued

@@ -33,7 +33,7 @@ written c (answer x) e inside = written-is-sent c (x .0) (x .1) e .0
 written c (refused n) e inside = let z : _≡_ {A = ℕ} 0 1 = cc in absurd (omega arith)
 
 -- the pair of a code that may be queued
-pub code-is-sent : (c : Code) → isQueueable c ≡ true → SentPair (pairOf c)
+code-is-sent : (c : Code) → isQueueable c ≡ true → SentPair (pairOf c)
 unfolding pairOf
 code-is-sent c e =
     written c (writeCode c) refl (ap isAnswer (sym (domain-is-written c)) ∙ queueable-is-in-domain c e)

@@ -24,7 +24,7 @@ less (command-goes x l e wants) more = omega arith
 pub pop-makes-progress : (v : Queued) → 0 < count v → work (pop v .next) < work v
 pop-makes-progress v more = less (way-of v) more
 
-pub empty-stays : (v : Queued) → count v ≡ 0 → count (pop v .next) ≡ 0
+empty-stays : (v : Queued) → count v ≡ 0 → count (pop v .next) ≡ 0
 unfolding pop
 empty-stays v e = nothing-left (v .held) (v .waiting) e
   where

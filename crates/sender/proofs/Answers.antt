@@ -31,7 +31,7 @@ drain-agrees s out start limit false past g =
     rw (g .formed, past) (ap {B = Reply × Sending} (λ (v : Sending). (drainedTo out start ps (view s) .0, v)) (sends-refine (length ps) s g))
 
 -- one call
-pub call-agrees : (c : Call) (s : Sender) → Good s → seen c s ≡ onLists c (view s)
+call-agrees : (c : Call) (s : Sender) → Good s → seen c s ≡ onLists c (view s)
 call-agrees (pushing x) s g =
     ap₂ {C = Reply × Sending} (λ (o : Outcome Unit) (v : Sending). (toPush o, v)) (push-refines s x g .0) (push-refines s x g .1)
 call-agrees sending s g =

@@ -17,7 +17,7 @@ use Rattle.sender.specs.Sending.{Sending, isIdle, send}
 use Rattle.sender.specs.declared.sender.Sender.{Sender}
 
 -- it writes no more bytes than there is room for
-pub within-the-room : (limit room : ℕ) (v : Sending) → length (bytesOfPairs (drainedPairs limit room v)) ≤ room
+within-the-room : (limit room : ℕ) (v : Sending) → length (bytesOfPairs (drainedPairs limit room v)) ≤ room
 within-the-room zero room v = omega arith
 within-the-room (suc limit) zero v = omega arith
 within-the-room (suc limit) (suc zero) v = omega arith
@@ -28,12 +28,12 @@ within-the-room (suc limit) (suc (suc room)) v = unless-idle (isIdle v) (within-
     unless-idle false less = omega (arith, less)
 
 -- two bytes a pair
-pub two-a-pair : (ps : List Pair) → length (bytesOfPairs ps) ≡ 2 * length ps
+two-a-pair : (ps : List Pair) → length (bytesOfPairs ps) ≡ 2 * length ps
 two-a-pair [] = refl
 two-a-pair (p ∷ ps) = omega (arith, two-a-pair ps)
 
 -- read as pairs again, they are the same pairs, whatever comes after
-pub pairs-back : (ps : List Pair) (rest : List ℕ) → pairsFrom (length ps) (bytesOfPairs ps ++ rest) ≡ ps
+pairs-back : (ps : List Pair) (rest : List ℕ) → pairsFrom (length ps) (bytesOfPairs ps ++ rest) ≡ ps
 pairs-back [] rest = refl
 pairs-back (p ∷ ps) rest = ap (λ (l : List Pair). p ∷ l) (pairs-back ps rest)
 

@@ -60,11 +60,11 @@ sent-once : (view sentOnce ≡ fullOf A-acute 0) × Good sentOnce
 unfolding ones onesIn codeOf writeCode inDomain queueable admit pairOf pop pushRing popRing ring.wellFormed wellFormed pushSender send sendSender onLine controlBytes meaning
 sent-once = (refl, record { formed = refl; places = refl })
 
-pub pushed-good : (n : ℕ) → Good (pushedTimes n sentOnce)
+pushed-good : (n : ℕ) → Good (pushedTimes n sentOnce)
 pushed-good zero = sent-once .1
 pushed-good (suc n) = push-good (pushedTimes n sentOnce) A-acute (pushed-good n)
 
-pub pushed-view : (n : ℕ) → n ≤ 64 → view (pushedTimes n sentOnce) ≡ fullOf A-acute n
+pushed-view : (n : ℕ) → n ≤ 64 → view (pushedTimes n sentOnce) ≡ fullOf A-acute n
 pushed-view zero few = sent-once .0
 pushed-view (suc n) few =
     let before = pushed-view n (omega arith) in

@@ -71,7 +71,7 @@ module _ (part : List ℕ) (at : ℕ) (p : Pair) (room : 2 ≤ length part - at)
       (ap (drop (length (bytesOfPairs ps))) after-them ∙ further (length (bytesOfPairs ps)))
       ∙ append-assoc (take at part) (p .0 ∷ p .1 ∷ []) (bytesOfPairs ps ++ drop (suc (suc (length (bytesOfPairs ps)))) (drop at part))
 
-  pub filled-on : (ps : List Pair) → take at part ++ filled (drop at part) (p ∷ ps) ≡ take (at + 2) (storedAt part at p) ++ filled (drop (at + 2) (storedAt part at p)) ps
+  filled-on : (ps : List Pair) → take at part ++ filled (drop at part) (p ∷ ps) ≡ take (at + 2) (storedAt part at p) ++ filled (drop (at + 2) (storedAt part at p)) ps
   filled-on ps =
       let two : suc (suc at) ≡ at + 2 = omega arith in
       let one : suc at ≡ at + 1 = omega arith in

@@ -68,7 +68,7 @@ call-kept counting h g order = kept-by counting h g order refl
 call-kept asking h g order = kept-by asking h g order refl
 call-kept resetting h g order = refl
 
-pub calls-kept : (cs : List Call) (h : History) → Good (h .sender) → InOrder h → InOrder (recordedAll cs h)
+calls-kept : (cs : List Call) (h : History) → Good (h .sender) → InOrder h → InOrder (recordedAll cs h)
 calls-kept [] h g order = order
 calls-kept (c ∷ cs) h g order = calls-kept cs (recorded c h) (call-stays-good c (h .sender) g) (call-kept c h g order)
 

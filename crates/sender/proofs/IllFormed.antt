@@ -20,7 +20,7 @@ use Rattle.sender.specs.Sending.{emptyLists}
 use Rattle.sender.specs.declared.sender.Sender.{Sender}
 
 -- one call
-pub call-refused : (c : Call) (s : Sender) → wellFormed s ≡ false → not (isReset c) ≡ true → onSender c s ≡ (illFormedReply c, s)
+call-refused : (c : Call) (s : Sender) → wellFormed s ≡ false → not (isReset c) ≡ true → onSender c s ≡ (illFormedReply c, s)
 call-refused (pushing x) s e stays =
     ap {B = Reply × Sender} (λ (r : Outcome Unit × Sender). (toPush (r .0), r .1)) (ill-formed-push s x e)
 call-refused sending s e stays =
@@ -68,7 +68,7 @@ pub fresh-from-reset : (before later : List Call) (s : Sender) → senderAfter (
 fresh-from-reset [] later s = refl
 fresh-from-reset (c ∷ before) later s = fresh-from-reset before later (onSender c s .1)
 
-pub history-from-reset : (before later : List Call) (h : History) → recordedAll (before ++ (resetting ∷ later)) h ≡ recordedAll later (begun freshSender)
+history-from-reset : (before later : List Call) (h : History) → recordedAll (before ++ (resetting ∷ later)) h ≡ recordedAll later (begun freshSender)
 history-from-reset [] later h = refl
 history-from-reset (c ∷ before) later h = history-from-reset before later (recorded c h)
 

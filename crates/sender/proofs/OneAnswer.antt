@@ -56,7 +56,7 @@ idle-answer-found idle-answer.Idle = refl
 idle-answer-found idle-answer.Busy = refl
 idle-answer-found idle-answer.IllFormed = refl
 
-pub idle-answer-injective : Injective idleAnswerOutcome
+idle-answer-injective : Injective idleAnswerOutcome
 idle-answer-injective a b e = sym (idle-answer-found a) ∙ ap idleAnswerOf e ∙ idle-answer-found b
 
 pub idle-injective : Injective idleOutcome
@@ -74,7 +74,7 @@ drain-answer-found (drain-answer.Sends n) = refl
 drain-answer-found drain-answer.StartPastEnd = refl
 drain-answer-found drain-answer.IllFormed = refl
 
-pub drain-answer-injective : Injective drainAnswerOutcome
+drain-answer-injective : Injective drainAnswerOutcome
 drain-answer-injective a b e = sym (drain-answer-found a) ∙ ap drainAnswerOf e ∙ drain-answer-found b
 
 -- a drain's outcome has the output too

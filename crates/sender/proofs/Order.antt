@@ -27,7 +27,7 @@ takes-by : (o : Source) (q : Queued) → inside q ≡ sendFrom o q .took ++ insi
 takes-by (ahead p) q = refl
 takes-by pops q = ring.pop-takes-from-the-front q
 
-pub send-takes-from-the-front : (s : Sending) → inside (s .queue) ≡ send s .took ++ inside (send s .next .queue)
+send-takes-from-the-front : (s : Sending) → inside (s .queue) ≡ send s .took ++ inside (send s .next .queue)
 unfolding send
 send-takes-from-the-front s = takes-by (source s) (s .queue)
 

@@ -20,7 +20,7 @@ use Rattle.sender.specs.declared.sender.Owed.{Owed}
 use Rattle.sender.specs.declared.sender.Owed.the-variants as owed
 use Rattle.sender.specs.declared.sender.Sender.{Sender}
 
-pub queue-fails : (s : Sender) → queue.wellFormed (s .queue) ≡ false → wellFormed s ≡ false
+queue-fails : (s : Sender) → queue.wellFormed (s .queue) ≡ false → wellFormed s ≡ false
 unfolding wellFormed
 queue-fails s e = rw e refl
 
@@ -49,7 +49,7 @@ push-by s c true e fits = sym (pushed-as s c (well-formed (s .queue) (s .repeats
 push-by s c false e fits =
     ap (pushedBy s) (ring.ill-formed-push (s .queue) c e) ∙ sym (ill-formed-push s c (queue-fails s e))
 
-pub push-is-the-queue's : (s : Sender) (c : Code) → repeatsFit (s .repeats) ≡ true → (pushRing (s .queue) c .0, sender (pushRing (s .queue) c .1) (s .repeats)) ≡ pushSender s c
+push-is-the-queue's : (s : Sender) (c : Code) → repeatsFit (s .repeats) ≡ true → (pushRing (s .queue) c .0, sender (pushRing (s .queue) c .1) (s .repeats)) ≡ pushSender s c
 push-is-the-queue's s c fits = push-by s c (queue.wellFormed (s .queue)) refl fits
 
 pub by-queue : (s : Sender) (c : Code) (o : Outcome Unit) (q : Queue) → repeatsFit (s .repeats) ≡ true → (o, q) ≡ pushRing (s .queue) c → (o, sender q (s .repeats)) ≡ pushSender s c

@@ -48,7 +48,7 @@ owes-by true false p e same = absurd (true≢false same)
 owes-by false true p e same = absurd (true≢false (sym same))
 owes-by false false p e same = rw e refl
 
-pub second-copy : (c : Code) (p : Pair) → isCommandPair p ≡ isCommandPair (pairOf c) → isQueueable c ≡ true → suc (owes p) ≡ copies c
+second-copy : (c : Code) (p : Pair) → isCommandPair p ≡ isCommandPair (pairOf c) → isQueueable c ≡ true → suc (owes p) ≡ copies c
 second-copy c p first may = owes-by (isCommandPair p) (isCommandCode c) p refl (first ∙ code-says c may)
 
 first-waits : (x : Code) (l : List Code) → allMayWait (x ∷ l) ≡ true → isQueueable x ≡ true
@@ -117,7 +117,7 @@ module _ (s : Sending) (idle : isIdle s ≡ true) where
   idle-has-none-left = rw (empty-queue, none-owed) refl
 
   -- it stays so: it sends padding
-  pub idle-stays : isIdle (send s .next) ≡ true
+  idle-stays : isIdle (send s .next) ≡ true
   unfolding send pop
   idle-stays = rw (empty-queue, none-owed) refl
 
