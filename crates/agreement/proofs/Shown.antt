@@ -25,6 +25,7 @@ use Rattle.code.specs.Parity.{isOdd, stripped}
 use Rattle.code.specs.Read.{controlCodeOf, isCommand, meaning, readPair, single}
 use Rattle.code.specs.Write.{controlBytes, inDomain, isCommandCode, onLine, writeCode}
 use Rattle.code.specs.declared.channel.Channel.{Channel}
+use Rattle.code.specs.declared.character.Character.{Character}
 use Rattle.code.specs.declared.character.Character.the-variants as character
 use Rattle.code.specs.declared.code.Code.{Code}
 use Rattle.code.specs.declared.code.Code.the-variants as code
@@ -92,11 +93,11 @@ padding-first ps qs go s t same =
     rw (padding-once s) (go (afterPadding s) t (record { channel = same .channel; field = same .field }))
 
 -- a text of two characters shows what its two show
-apart : (ch : Channel) (c d : Option ℕ) → shownBy (answer (textOf ch c d)) ≡ shownBy (answer (textOf ch c none)) ++ shownBy (answer (textOf ch d none))
-apart ch none none = refl
-apart ch none (some d) = refl
-apart ch (some c) none = refl
-apart ch (some c) (some d) = refl
+apart : (ch : Channel) (c d : Character) → shownBy (answer (textOf ch c d)) ≡ shownBy (answer (textOf ch c character.Absent)) ++ shownBy (answer (textOf ch d character.Absent))
+apart ch character.Absent character.Absent = refl
+apart ch character.Absent (character.Point d) = refl
+apart ch (character.Point c) character.Absent = refl
+apart ch (character.Point c) (character.Point d) = refl
 
 abbrev shownAlone : LastChannel → Code → List Cea608
 shownAlone l x = shownBy (answer (textFor l x code.Nul))

@@ -2,7 +2,6 @@
 -- code points of characters, as the code's one table has them.
 -- Assumes nothing.
 use mathlib.Core.Bool.{true}
-use mathlib.Core.Option.{none, some}
 use mathlib.Core.Path.{_≡_, refl, ap, sym}
 use Prim.Native.Nat.{ℕ, _+_, _*_, _≤_, _<_}
 use native.Mathlib.Nat.{add-assoc, add-zero}
@@ -14,7 +13,8 @@ use Rattle.code.specs.Characters.{standard, symbols}
 use Rattle.code.specs.Pair.{pair, plus}
 use Rattle.code.specs.Preamble.{rowPrefix}
 use Rattle.code.specs.Symbol.{symbolBase}
-use Rattle.code.specs.Tables.{allPoints, pointOrNone}
+use Rattle.code.specs.Tables.{allPoints, characterOf}
+use Rattle.code.specs.declared.character.Character.the-variants.{Point, Absent}
 use Rattle.code.specs.declared.symbol.SymbolRow.{SymbolRow}
 use Rattle.code.specs.declared.symbol.SymbolRow.the-variants.{Special, Spanish, French, Portuguese, German}
 
@@ -37,10 +37,10 @@ pub plain-row : (row s : ℕ) → pair (rowPrefix row .0) (rowPrefix row .1 + 2 
 plain-row row s = ap (λ (n : ℕ). plus (rowPrefix row) n) (sym (add-zero (2 * s)))
 
 -- the code points of the code's one table are the definition's
-pub letter-point : (n : ℕ) → n < 96 → some (getD allPoints n 0) ≡ getD standard n none
+pub letter-point : (n : ℕ) → n < 96 → Point (getD allPoints n 0) ≡ getD standard n Absent
 unfolding standard symbols
-letter-point n less = agree (λ (x : ℕ). some (getD allPoints x 0)) (λ (x : ℕ). getD standard x none) 96 refl n less
+letter-point n less = agree (λ (x : ℕ). Point (getD allPoints x 0)) (λ (x : ℕ). getD standard x Absent) 96 refl n less
 
-pub symbol-point : (n : ℕ) → n < 80 → pointOrNone (getD allPoints (96 + n) 0) ≡ getD symbols n none
+pub symbol-point : (n : ℕ) → n < 80 → characterOf (getD allPoints (96 + n) 0) ≡ getD symbols n Absent
 unfolding standard symbols
-symbol-point n less = agree (λ (x : ℕ). pointOrNone (getD allPoints (96 + x) 0)) (λ (x : ℕ). getD symbols x none) 80 refl n less
+symbol-point n less = agree (λ (x : ℕ). characterOf (getD allPoints (96 + x) 0)) (λ (x : ℕ). getD symbols x Absent) 80 refl n less

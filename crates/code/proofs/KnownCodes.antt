@@ -3,7 +3,7 @@
 -- Assumes nothing.
 use mathlib.Core.Bool.{false, cond}
 use mathlib.Core.List.{map}
-use mathlib.Core.Option.{none, some}
+use mathlib.Core.Option.{some}
 use mathlib.Core.Path.{_≡_, refl, ap, sym, _∙_}
 use Prim.Native.Nat.{ℕ, _≤_, _<_}
 use lib.Count.{ones, onesIn}
@@ -18,20 +18,21 @@ use Rattle.code.specs.Outcome.{answer, refused}
 use Rattle.code.specs.Preamble.{fromIndent, indentIn, newPreamble}
 use Rattle.code.specs.Read.{readPair, single}
 use Rattle.code.specs.Write.{inDomain, writeCode}
+use Rattle.code.specs.declared.character.Character.the-variants.{Point, Absent}
 use Rattle.code.specs.declared.code.Code.the-variants as code
 use Rattle.code.specs.declared.color.Color.the-variants.{White}
 use Rattle.code.specs.declared.preamble.PreambleType.the-variants.{Color}
 
 -- at every other byte of 20 to 7F the character is the byte's own
-pub ascii-elsewhere : (b : ℕ) → 0x20 ≤ b → b < 0x80 → isNotAscii b ≡ false → charOf (single b) ≡ some b
+pub ascii-elsewhere : (b : ℕ) → 0x20 ≤ b → b < 0x80 → isNotAscii b ≡ false → charOf (single b) ≡ Point b
 unfolding standard charOf
 ascii-elsewhere b from below other =
-    sym (ap (λ t. cond t none (charOf (single b))) other)
-    ∙ agree-from (λ (x : ℕ). cond (isNotAscii x) none (charOf (single x))) (λ (x : ℕ). cond (isNotAscii x) none (some x)) 0x20 0x60 refl b from
+    sym (ap (λ t. cond t Absent (charOf (single b))) other)
+    ∙ agree-from (λ (x : ℕ). cond (isNotAscii x) Absent (charOf (single x))) (λ (x : ℕ). cond (isNotAscii x) Absent (Point x)) 0x20 0x60 refl b from
     (omega (arith, below))
-    ∙ ap (λ t. cond t none (some b)) other
+    ∙ ap (λ t. cond t Absent (Point b)) other
 
-pub instead-of-ascii : map (λ (x : Instead). charOf (single (x .byte))) notAscii ≡ map (λ (x : Instead). some (x .point)) notAscii
+pub instead-of-ascii : map (λ (x : Instead). charOf (single (x .byte))) notAscii ≡ map (λ (x : Instead). Point (x .point)) notAscii
 unfolding standard charOf
 instead-of-ascii = refl
 

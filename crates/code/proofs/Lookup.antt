@@ -18,31 +18,33 @@ use Rattle.code.specs.Position.{later, position}
 use Rattle.code.specs.Symbol.{symbolAt}
 use Rattle.code.specs.Tables.{codeEntries, controlEntries, orZero, pointOf}
 use Rattle.code.specs.declared.channel.Channel.{Channel}
+use Rattle.code.specs.declared.character.Character.{Character}
+use Rattle.code.specs.declared.character.Character.the-variants as character
 use Rattle.code.specs.declared.code.Code.the-variants as code
 use Rattle.code.specs.declared.control.CodeField.the-variants.{Absent}
 use Rattle.code.specs.declared.control.Control.the-variants as control
 
 -- a character's place among the code points is its place among the characters
-same-test : (c : ℕ) (o : Option ℕ) → (c ≡ 0 → ⊥) → eqb c (orZero o) ≡ isPoint c o
-same-test c none h = ne-eqb c 0 h
-same-test c (some d) h = refl
+same-test : (c : ℕ) (k : Character) → (c ≡ 0 → ⊥) → eqb c (orZero k) ≡ isPoint c k
+same-test c (character.Point d) h = refl
+same-test c character.Absent h = ne-eqb c 0 h
 
-point-place : (c : ℕ) (l : List (Option ℕ)) → (c ≡ 0 → ⊥) → position c (map orZero l) ≡ placeOf c l
+point-place : (c : ℕ) (l : List Character) → (c ≡ 0 → ⊥) → position c (map orZero l) ≡ placeOf c l
 point-place c [] h = refl
-point-place c (o ∷ l) h = rw (same-test c o h, point-place c l h) refl
+point-place c (k ∷ l) h = rw (same-test c k h, point-place c l h) refl
 
 -- a character is found among the symbols alone, since the commands and tabs after them have none
-none-in-empty : (c n : ℕ) → placeOf c (replicate n none) ≡ none
+none-in-empty : (c n : ℕ) → placeOf c (replicate n character.Absent) ≡ none
 none-in-empty c zero = refl
 none-in-empty c (suc n) = ap later (none-in-empty c n)
 
-before-empty : (c n : ℕ) (l : List (Option ℕ)) → placeOf c (l ++ replicate n none) ≡ placeOf c l
+before-empty : (c n : ℕ) (l : List Character) → placeOf c (l ++ replicate n character.Absent) ≡ placeOf c l
 before-empty c n [] = none-in-empty c n
 before-empty c n (y ∷ ys) = simp (before-empty c n ys)
 
 symbol-place : (c : ℕ) → (c ≡ 0 → ⊥) → position c (map pointOf controlEntries) ≡ placeOf c symbols
 unfolding controlEntries symbols
-symbol-place c h = point-place c (symbols ++ replicate 19 none) h ∙ before-empty c 19 symbols
+symbol-place c h = point-place c (symbols ++ replicate 19 character.Absent) h ∙ before-empty c 19 symbols
 
 -- a standard character's entry is one after its place, since NUL comes first
 letter-entry : (c : ℕ) → (c ≡ 0 → ⊥) → position c (map pointOf codeEntries) ≡ later (placeOf c standard)

@@ -5,14 +5,13 @@
 use mathlib.Core.Path.{_≡_, refl, ap, ap₂, sym, _∙_}
 use Prim.Native.Nat.{ℕ}
 use native.Mathlib.Omega.{arith}
-use Rattle.code.specs.Code.{characterOutcome, fromCharOutcome}
+use Rattle.code.specs.Code.{fromCharOutcome}
 use Rattle.code.specs.Control.{tabOffsetOutcome}
 use Rattle.code.specs.MidRow.{maybeColorOutcome}
 use Rattle.code.specs.Outcome.{answer, refused}
 use Rattle.code.specs.Preamble.{fromIndentOutcome, maybeIndentOutcome, newPreambleOutcome}
 use Rattle.code.specs.Read.{fromDataOutcome}
 use Rattle.code.specs.Write.{domainOutcome, rowBytesOutcome, writtenOutcome}
-use Rattle.code.specs.declared.character.Character.the-variants as character
 use Rattle.code.specs.declared.character.FromChar.the-variants as from-char
 use Rattle.code.specs.declared.code.Code.{Code}
 use Rattle.code.specs.declared.control.TabOffset.the-variants as tab
@@ -60,12 +59,6 @@ written-injective written.UnknownByte written.NoSuchRow e = let z : _≡_ {A = �
 written-injective written.NoSuchRow (written.Made q m) e = absurd (clash (sym e))
 written-injective written.NoSuchRow written.UnknownByte e = let z : _≡_ {A = ℕ} 3 2 = cc in absurd (omega arith)
 written-injective written.NoSuchRow written.NoSuchRow e = refl
-
-pub character-injective : Injective characterOutcome
-character-injective (character.Point a) (character.Point b) e = cc
-character-injective (character.Point a) character.Absent e = let z : _≡_ {A = ℕ} 0 1 = cc in absurd (omega arith)
-character-injective character.Absent (character.Point b) e = let z : _≡_ {A = ℕ} 0 1 = cc in absurd (omega arith)
-character-injective character.Absent character.Absent e = refl
 
 pub from-char-injective : Injective fromCharOutcome
 from-char-injective (from-char.Made x) (from-char.Made y) e = cc

@@ -2,7 +2,7 @@
 -- bytes are read as that entry, and the entry is written as its bytes; a character occurs once.
 -- Assumes nothing.
 use mathlib.Core.List.{List}
-use mathlib.Core.Option.{Option, Option·none-ne-some, Option·some-injective, none, some}
+use mathlib.Core.Option.{Option, none, some}
 use mathlib.Core.Path.{_≡_, refl, ap, sym, _∙_}
 use Prim.Native.Nat.{ℕ, _/_, _%_, _<_}
 use lib.Count.{ones, onesIn}
@@ -17,6 +17,8 @@ use Rattle.code.specs.Preamble.{rowPrefix, rowPrefixes}
 use Rattle.code.specs.Read.{meaning, single}
 use Rattle.code.specs.Tables.{bytesOf, codeAt, codeEntries, controlAt, controlEntries, twoBytes}
 use Rattle.code.specs.Write.{asSingle, controlBytes, writeCode}
+use Rattle.code.specs.declared.character.Character.{Character}
+use Rattle.code.specs.declared.character.Character.the-variants as character
 
 pub characters-rise : Increasing codeEntries
 unfolding codeEntries standard
@@ -57,28 +59,25 @@ pub row-back : (row : ℕ) → row < 15 → firstPlace (samePair (rowPrefix row)
 row-back row less = agree (λ (x : ℕ). firstPlace (samePair (rowPrefix x)) rowPrefixes) (λ (x : ℕ). some x) 15 refl row less
 
 -- a character's first place is its only one, and no symbol is a standard character
-abbrev pub firstPlaceOf : List (Option ℕ) → Option ℕ → Option ℕ
-firstPlaceOf l none = none
-firstPlaceOf l (some c) = placeOf c l
+abbrev pub firstPlaceOf : List Character → Character → Option ℕ
+firstPlaceOf l (character.Point c) = placeOf c l
+firstPlaceOf l character.Absent = none
 
-pub letter-once : (n : ℕ) → n < 96 → firstPlaceOf standard (getD standard n none) ≡ some n
+pub letter-once : (n : ℕ) → n < 96 → firstPlaceOf standard (getD standard n character.Absent) ≡ some n
 unfolding standard
-letter-once n less = agree (λ (x : ℕ). firstPlaceOf standard (getD standard x none)) (λ (x : ℕ). some x) 96 refl n less
+letter-once n less = agree (λ (x : ℕ). firstPlaceOf standard (getD standard x character.Absent)) (λ (x : ℕ). some x) 96 refl n less
 
-abbrev onlyAt : ℕ → Option ℕ → Option ℕ
-onlyAt n none = none
-onlyAt n (some c) = some n
+abbrev onlyAt : ℕ → Character → Option ℕ
+onlyAt n (character.Point c) = some n
+onlyAt n character.Absent = none
 
-only-by : (n c : ℕ) (o : Option ℕ) → firstPlaceOf symbols o ≡ onlyAt n o → o ≡ some c → placeOf c symbols ≡ some n
-only-by n c none known e = absurd (Option·none-ne-some c e)
-only-by n c (some d) known e = ap (λ (x : ℕ). placeOf x symbols) (sym (Option·some-injective d c e)) ∙ known
-
-pub symbol-once : (n c : ℕ) → n < 80 → getD symbols n none ≡ some c → placeOf c symbols ≡ some n
+pub symbol-once : (n c : ℕ) → n < 80 → getD symbols n character.Absent ≡ character.Point c → placeOf c symbols ≡ some n
 unfolding symbols
 symbol-once n c less e =
-    only-by n c (getD symbols n none)
-    (agree (λ (x : ℕ). firstPlaceOf symbols (getD symbols x none)) (λ (x : ℕ). onlyAt x (getD symbols x none)) 80 refl n less) e
+    sym (ap (firstPlaceOf symbols) e)
+    ∙ agree (λ (x : ℕ). firstPlaceOf symbols (getD symbols x character.Absent)) (λ (x : ℕ). onlyAt x (getD symbols x character.Absent)) 80 refl n less
+    ∙ ap (onlyAt n) e
 
-pub symbol-apart : (n : ℕ) → n < 80 → firstPlaceOf standard (getD symbols n none) ≡ none
+pub symbol-apart : (n : ℕ) → n < 80 → firstPlaceOf standard (getD symbols n character.Absent) ≡ none
 unfolding standard symbols
-symbol-apart n less = agree (λ (x : ℕ). firstPlaceOf standard (getD symbols x none)) (λ (x : ℕ). none) 80 refl n less
+symbol-apart n less = agree (λ (x : ℕ). firstPlaceOf standard (getD symbols x character.Absent)) (λ (x : ℕ). none) 80 refl n less

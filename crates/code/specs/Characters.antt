@@ -7,9 +7,11 @@ use Prim.Native.String as text
 use Prim.Native.String.{String}
 use mathlib.Core.Bool.{Bool, false}
 use mathlib.Core.List.{List, [], _∷_, _++_, map}
-use mathlib.Core.Option.{Option, none, some}
+use mathlib.Core.Option.{Option}
 use lib.Dec.{eqb}
 use Rattle.code.specs.Position.{firstPlace}
+use Rattle.code.specs.declared.character.Character.{Character}
+use Rattle.code.specs.declared.character.Character.the-variants.{Point, Absent}
 
 -- the code points of a text
 abbrev pub points : String → List ℕ
@@ -17,39 +19,39 @@ points text.[] = []
 points (text._∷_ c s) = code c ∷ points s
 
 -- places that each have a character
-abbrev pub characters : String → List (Option ℕ)
-characters s = map some (points s)
+abbrev pub characters : String → List Character
+characters s = map Point (points s)
 
 -- the standard characters, from 0x20 to 0x7F
-unfoldable pub standard : List (Option ℕ)
+unfoldable pub standard : List Character
 standard =
     characters " !\"#$%&’()á+,-./" ++ characters "0123456789:;<=>?" ++ characters "@ABCDEFGHIJKLMNO" ++ characters "PQRSTUVWXYZ[é]íó"
     ++ characters "úabcdefghijklmno" ++ characters "pqrstuvwxyzç÷Ññ█"
 
 -- the special characters, from 11 30; the transparent space has none
-abbrev pub special : List (Option ℕ)
-special = characters "®°½¿™¢£♪à" ++ (none ∷ characters "èâêîôû")
+abbrev pub special : List Character
+special = characters "®°½¿™¢£♪à" ++ (Absent ∷ characters "èâêîôû")
 
 -- the extended characters, from 12 20, 12 30, 13 20 and 13 30
-abbrev pub spanish : List (Option ℕ)
+abbrev pub spanish : List Character
 spanish = characters "ÁÉÓÚÜü‘¡*'—©℠•“”"
 
-abbrev pub french : List (Option ℕ)
+abbrev pub french : List Character
 french = characters "ÀÂÇÈÊËëÎÏïÔÙùÛ«»"
 
-abbrev pub portuguese : List (Option ℕ)
+abbrev pub portuguese : List Character
 portuguese = characters "ÃãÍÌìÒòÕõ{}\\^_|~"
 
-abbrev pub german : List (Option ℕ)
+abbrev pub german : List Character
 german = characters "ÄäÖöß¥¤│ÅåØø┌┐└┘"
 
-unfoldable pub symbols : List (Option ℕ)
+unfoldable pub symbols : List Character
 symbols = special ++ spanish ++ french ++ portuguese ++ german
 
 -- the first place that has a character
-abbrev pub isPoint : ℕ → Option ℕ → Bool
-isPoint c none = false
-isPoint c (some d) = eqb c d
+abbrev pub isPoint : ℕ → Character → Bool
+isPoint c (Point d) = eqb c d
+isPoint c Absent = false
 
-abbrev pub placeOf : ℕ → List (Option ℕ) → Option ℕ
+abbrev pub placeOf : ℕ → List Character → Option ℕ
 placeOf c l = firstPlace (isPoint c) l

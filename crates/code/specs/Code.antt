@@ -18,6 +18,8 @@ use Rattle.code.specs.declared.code.Code.the-variants as code
 use Rattle.code.specs.declared.control.CodeField.the-variants.{Absent}
 use Rattle.code.specs.declared.control.Control.{Control}
 use Rattle.code.specs.declared.control.Control.the-variants as control
+use Rattle.code.specs.declared.letter.Letter.{Letter}
+use Rattle.code.specs.declared.symbol.Symbol.{Symbol}
 use Rattle.code.specs.declared.symbol.SymbolRow.{SymbolRow}
 use Rattle.code.specs.declared.symbol.SymbolRow.the-variants.{Special, Spanish, French, Portuguese, German}
 
@@ -51,24 +53,26 @@ needsBackspace (code.Control c) = controlNeedsBackspace (c .control)
 needsBackspace (code.Letter l) = false
 needsBackspace (code.Unknown b) = false
 
--- the code point of a code, or none
-abbrev pub controlChar : Control → Option ℕ
-controlChar (control.MidRow m) = none
-controlChar (control.Symbol s) = getD symbols (symbolPlace s) none
-controlChar (control.Command c) = none
-controlChar (control.Tab t) = none
-controlChar (control.Preamble p) = none
-controlChar (control.Unknown a b) = none
+-- the character of a code, by the place of a letter or of a symbol; all others have none
+abbrev pub letterChar : Letter → Character
+letterChar l = getD standard (letterPlace l) character.Absent
 
-unfoldable pub charOf : Code → Option ℕ
-charOf code.Nul = none
+abbrev pub symbolChar : Symbol → Character
+symbolChar s = getD symbols (symbolPlace s) character.Absent
+
+abbrev pub controlChar : Control → Character
+controlChar (control.MidRow m) = character.Absent
+controlChar (control.Symbol s) = symbolChar s
+controlChar (control.Command c) = character.Absent
+controlChar (control.Tab t) = character.Absent
+controlChar (control.Preamble p) = character.Absent
+controlChar (control.Unknown a b) = character.Absent
+
+unfoldable pub charOf : Code → Character
+charOf code.Nul = character.Absent
 charOf (code.Control c) = controlChar (c .control)
-charOf (code.Letter l) = getD standard (letterPlace l) none
-charOf (code.Unknown b) = none
-
-abbrev pub characterOutcome : Character → Option ℕ
-characterOutcome (character.Point c) = some c
-characterOutcome character.Absent = none
+charOf (code.Letter l) = letterChar l
+charOf (code.Unknown b) = character.Absent
 
 -- a character's code: the first standard character that has it, else the first symbol, with no field and the given
 -- channel; 5: none has it

@@ -13,6 +13,8 @@ use Rattle.code.specs.Letter.{letterAt}
 use Rattle.code.specs.Pair.{pair}
 use Rattle.code.specs.Range.{within}
 use Rattle.code.specs.Symbol.{symbolAt, symbolBase}
+use Rattle.code.specs.declared.character.Character.{Character}
+use Rattle.code.specs.declared.character.Character.the-variants as character
 use Rattle.code.specs.declared.code.Code.{Code}
 use Rattle.code.specs.declared.code.Code.the-variants as code
 use Rattle.code.specs.declared.control.Control.{Control}
@@ -33,12 +35,12 @@ abbrev pub pointOf : ℕ → ℕ
 pointOf e = e % 65536
 
 -- 0 where there is none, and back
-abbrev pub orZero : Option ℕ → ℕ
-orZero none = 0
-orZero (some c) = c
+abbrev pub orZero : Character → ℕ
+orZero (character.Point c) = c
+orZero character.Absent = 0
 
-abbrev pub pointOrNone : ℕ → Option ℕ
-pointOrNone n = cond (eqb n 0) none (some n)
+abbrev pub characterOf : ℕ → Character
+characterOf n = cond (eqb n 0) character.Absent (character.Point n)
 
 -- two bytes as one number, and back
 abbrev pub bothBytes : Pair → ℕ
@@ -48,7 +50,7 @@ abbrev pub twoBytes : ℕ → Pair
 twoBytes n = pair (n / 256) (n % 256)
 
 -- entries for these characters, the bytes rising by one from the first
-abbrev pub entries : ℕ → List (Option ℕ) → List ℕ
+abbrev pub entries : ℕ → List Character → List ℕ
 entries bytes [] = []
 entries bytes (c ∷ cs) = (bytes * 65536 + orZero c) ∷ entries (suc bytes) cs
 
@@ -61,8 +63,8 @@ unfoldable pub controlEntries : List ℕ
 controlEntries =
     entries (bothBytes (symbolBase Special)) special ++ entries (bothBytes (symbolBase Spanish)) spanish
     ++ entries (bothBytes (symbolBase French)) french ++ entries (bothBytes (symbolBase Portuguese)) portuguese
-    ++ entries (bothBytes (symbolBase German)) german ++ entries 0x1420 (replicate 16 none)
-    ++ entries 0x1721 (replicate 3 none)
+    ++ entries (bothBytes (symbolBase German)) german ++ entries 0x1420 (replicate 16 character.Absent)
+    ++ entries 0x1721 (replicate 3 character.Absent)
 
 -- the code points of the standard characters, then of the symbols
 abbrev pub allPoints : List ℕ

@@ -1,12 +1,8 @@
 // The character of a code, and the code of a character.
 ghost use mathlib.Core.Path.{_≡_};
-ghost use mathlib.Core.Option.{none};
-ghost use lib.ListN.{getD};
-ghost use Rattle.code.specs.Tables.{pointOrNone};
-ghost use Rattle.code.specs.Code.{charOf, controlChar, characterOutcome, fromChar, fromCharOutcome, symbolCode};
-ghost use Rattle.code.specs.Characters.{placeOf, standard, symbols};
-ghost use Rattle.code.specs.Letter.{letterPlace};
-ghost use Rattle.code.specs.Symbol.{symbolPlace};
+ghost use Rattle.code.specs.Tables.{characterOf};
+ghost use Rattle.code.specs.Code.{charOf, controlChar, letterChar, symbolChar, fromChar, fromCharOutcome, symbolCode};
+ghost use Rattle.code.specs.Characters.{placeOf, symbols};
 use crate::channel::Channel;
 use crate::code::Code;
 use crate::control::CodeField;
@@ -35,7 +31,7 @@ pub enum FromChar {
 impl Character {
     // The character of a code point, 0 standing for none.
     pub(crate) fn from_point(point: u32) -> Character
-        ensures { λ r. ⌜ characterOutcome r ≡ pointOrNone point ⌝ }
+        ensures { λ r. ⌜ r ≡ characterOf point ⌝ }
     {
         if point == 0 {
             Character::Absent
@@ -48,7 +44,7 @@ impl Character {
 impl Letter {
     // The letter's character.
     pub(crate) fn char(self) -> Character
-        ensures { λ r. ⌜ characterOutcome r ≡ getD standard (letterPlace self) none ⌝ }
+        ensures { λ r. ⌜ r ≡ letterChar self ⌝ }
     {
         Character::Point(point_at(self.place()))
     }
@@ -57,7 +53,7 @@ impl Letter {
 impl Symbol {
     // The symbol's character; the transparent space has none.
     pub(crate) fn char(self) -> Character
-        ensures { λ r. ⌜ characterOutcome r ≡ getD symbols (symbolPlace self) none ⌝ }
+        ensures { λ r. ⌜ r ≡ symbolChar self ⌝ }
     {
         Character::from_point(point_at(96 + self.place()))
     }
@@ -66,7 +62,7 @@ impl Symbol {
 impl Code {
     // The character that a receiver shows for the code, if any.
     pub fn char(self) -> Character
-        ensures { λ r. ⌜ characterOutcome r ≡ charOf self ⌝ }
+        ensures { λ r. ⌜ r ≡ charOf self ⌝ }
     {
         match self {
             Code::Nul => Character::Absent,
@@ -115,7 +111,7 @@ impl Code {
 impl Control {
     // The character that a receiver shows for the control, if any.
     pub fn char(self) -> Character
-        ensures { λ r. ⌜ characterOutcome r ≡ controlChar self ⌝ }
+        ensures { λ r. ⌜ r ≡ controlChar self ⌝ }
     {
         match self {
             Control::MidRow(_) => Character::Absent,

@@ -1,4 +1,3 @@
-pub mod Codes
 pub mod Copies
 pub mod OneAnswer
 pub mod Step

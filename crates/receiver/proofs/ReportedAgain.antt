@@ -3,7 +3,7 @@
 -- Assumes nothing.
 use mathlib.Core.Bool.{Bool, true, false, cond}
 use mathlib.Core.Logic.{_⊎_, inl, inr}
-use mathlib.Core.Option.{Option, Option·none-ne-some, Option·some-injective, none, some}
+use mathlib.Core.Option.{Option·none-ne-some, Option·some-injective, none, some}
 use mathlib.Core.Path.{_≡_, refl, ap, ap₂, sym, subst, _∙_}
 use Prim.Native.Nat.{ℕ, _-_, _<_}
 use borrow.Author.Tests.{le-leb}
@@ -15,7 +15,7 @@ use Rattle.code.proofs.OneAnswer.{clash, same}
 use Rattle.code.proofs.ReadBack.{symbol-reads-back}
 use Rattle.code.proofs.RoundTrip.{row-that-was-read}
 use Rattle.code.proofs.Written.{read-as-command}
-use Rattle.code.specs.Code.{charOf, controlChar}
+use Rattle.code.specs.Code.{charOf, symbolChar}
 use Rattle.code.specs.Control.{controlCode}
 use Rattle.code.specs.Letter.{letterAt}
 use Rattle.code.specs.Outcome.{Outcome, answer}
@@ -100,10 +100,10 @@ preamble-again p ch e f inside is =
     (no-text-again (event.Preamble ch p) f (code.Control (controlCode f ch (control.Preamble p))) code.Nul refl (rw (le-leb (p .row) 14 (omega arith)) refl))
 
 -- a symbol, by its character
-symbol-by : (s : Symbol) (ch : Channel) (e : Cea608) (f : Field) (o : Option ℕ) → controlChar (control.Symbol s) ≡ o → symbolText ch s o ≡ some e → Again e f
+symbol-by : (s : Symbol) (ch : Channel) (e : Cea608) (f : Field) (k : Character) → symbolChar s ≡ k → symbolText ch s k ≡ some e → Again e f
 unfolding codesOf charOf
-symbol-by s ch e f none has is = none-given e f is
-symbol-by s ch e f (some c) has is =
+symbol-by s ch e f character.Absent has is = none-given e f is
+symbol-by s ch e f (character.Point c) has is =
     let x = code.Control (record { field = field.Absent; channel = ch; control = control.Symbol s }) in
     is-given e f _ is (
       x,
@@ -115,25 +115,25 @@ symbol-by s ch e f (some c) has is =
 control-again : (c : Control) (ch : Channel) (e : Cea608) (f : Field) → ((p : PreambleAddressCode) → c ≡ control.Preamble p → p .row < 15) → controlEvent ch c ≡ some e → Again e f
 unfolding codesOf
 control-again (control.MidRow m) ch e f row is = is-given e f _ is (no-text-again _ f _ _ refl refl)
-control-again (control.Symbol s) ch e f row is = symbol-by s ch e f (controlChar (control.Symbol s)) refl is
+control-again (control.Symbol s) ch e f row is = symbol-by s ch e f (symbolChar s) refl is
 control-again (control.Command c) ch e f row is = command-again c ch e f is
 control-again (control.Tab t) ch e f row is = tab-again t ch e f is
 control-again (control.Preamble p) ch e f row is = preamble-again p ch e f (row p refl) is
 control-again (control.Unknown a b) ch e f row is = none-given e f is
 
 -- a single code of a pair is a letter, or has no character
-letter-or-none : (b : ℕ) → ((l : Letter) × (single b ≡ code.Letter l)) ⊎ (charOf (single b) ≡ none)
+letter-or-none : (b : ℕ) → ((l : Letter) × (single b ≡ code.Letter l)) ⊎ (charOf (single b) ≡ character.Absent)
 unfolding charOf
 letter-or-none b = kind (eqb b 0) (leb 0x20 b)
   where
-    kind : (t u : Bool) → ((l : Letter) × (cond t code.Nul (cond u (code.Letter (letterAt (b - 0x20))) (code.Unknown b)) ≡ code.Letter l)) ⊎ (charOf (cond t code.Nul (cond u (code.Letter (letterAt (b - 0x20))) (code.Unknown b))) ≡ none)
+    kind : (t u : Bool) → ((l : Letter) × (cond t code.Nul (cond u (code.Letter (letterAt (b - 0x20))) (code.Unknown b)) ≡ code.Letter l)) ⊎ (charOf (cond t code.Nul (cond u (code.Letter (letterAt (b - 0x20))) (code.Unknown b))) ≡ character.Absent)
     kind true u = inr refl
     kind false true = inl (letterAt (b - 0x20), refl)
     kind false false = inr refl
 
 -- two letters, or one
-abbrev plainText : Channel → Character → Character → Text
-plainText ch k l = record { «needs_backspace» = false; char1 = k; char2 = l; channel = ch }
+abbrev asPlain : Channel → Character → Character → Text
+asPlain ch k l = record { «needs_backspace» = false; char1 = k; char2 = l; channel = ch }
 
 letters-again : (l m : Letter) (ch : Channel) (e : Cea608) (f : Field) → textEvent ch (code.Letter l) (code.Letter m) ≡ some e → Again e f
 unfolding textEvent codesOf
@@ -141,25 +141,25 @@ letters-again l m ch e f is =
     let one = a-letter-has-a-character l in
     let two = a-letter-has-a-character m in
     let told = ap₂ inOrder (a-letter-is-its-characters-code l (one .0) ch (one .1)) (a-letter-is-its-characters-code m (two .0) ch (two .1)) in
-    let t = plainText ch (character.Point (one .0)) (character.Point (two .0)) in
+    let t = asPlain ch (character.Point (one .0)) (character.Point (two .0)) in
     is-given e f (event.Text t) (sym (ap₂ (textOf ch) (one .1) (two .1)) ∙ is)
     (code.Letter l, code.Letter m, told, text-is-heard t f (code.Letter l) (code.Letter m) told (two-letters l m))
 
-first-again : (l : Letter) (y : Code) (ch : Channel) (e : Cea608) (f : Field) → charOf y ≡ none → textEvent ch (code.Letter l) y ≡ some e → Again e f
+first-again : (l : Letter) (y : Code) (ch : Channel) (e : Cea608) (f : Field) → charOf y ≡ character.Absent → textEvent ch (code.Letter l) y ≡ some e → Again e f
 unfolding textEvent codesOf
 first-again l y ch e f no-second is =
     let one = a-letter-has-a-character l in
     let told = ap (λ (o : Outcome Code). inOrder o (answer code.Nul)) (a-letter-is-its-characters-code l (one .0) ch (one .1)) in
-    let t = plainText ch (character.Point (one .0)) character.Absent in
+    let t = asPlain ch (character.Point (one .0)) character.Absent in
     is-given e f (event.Text t) (sym (ap₂ (textOf ch) (one .1) no-second) ∙ is)
     (code.Letter l, code.Nul, told, text-is-heard t f (code.Letter l) code.Nul told (only-a-first l))
 
-second-again : (x : Code) (m : Letter) (ch : Channel) (e : Cea608) (f : Field) → charOf x ≡ none → textEvent ch x (code.Letter m) ≡ some e → Again e f
+second-again : (x : Code) (m : Letter) (ch : Channel) (e : Cea608) (f : Field) → charOf x ≡ character.Absent → textEvent ch x (code.Letter m) ≡ some e → Again e f
 unfolding textEvent codesOf
 second-again x m ch e f no-first is =
     let two = a-letter-has-a-character m in
     let told = ap (inOrder (answer code.Nul)) (a-letter-is-its-characters-code m (two .0) ch (two .1)) in
-    let t = plainText ch character.Absent (character.Point (two .0)) in
+    let t = asPlain ch character.Absent (character.Point (two .0)) in
     is-given e f (event.Text t) (sym (ap₂ (textOf ch) no-first (two .1)) ∙ is)
     (code.Nul, code.Letter m, told, text-is-heard t f code.Nul (code.Letter m) told (only-a-second m))
 
@@ -167,7 +167,7 @@ text-again : (a b : ℕ) (ch : Channel) (e : Cea608) (f : Field) → textEvent c
 unfolding textEvent
 text-again a b ch e f is = by-letters (letter-or-none a) (letter-or-none b)
   where
-    by-letters : ((l : Letter) × (single a ≡ code.Letter l)) ⊎ (charOf (single a) ≡ none) → ((m : Letter) × (single b ≡ code.Letter m)) ⊎ (charOf (single b) ≡ none) → Again e f
+    by-letters : ((l : Letter) × (single a ≡ code.Letter l)) ⊎ (charOf (single a) ≡ character.Absent) → ((m : Letter) × (single b ≡ code.Letter m)) ⊎ (charOf (single b) ≡ character.Absent) → Again e f
     by-letters (inl l) (inl m) = letters-again (l .0) (m .0) ch e f (sym (ap₂ (textEvent ch) (l .1) (m .1)) ∙ is)
     by-letters (inl l) (inr empty) = first-again (l .0) (single b) ch e f empty (sym (ap (λ (x : Code). textEvent ch x (single b)) (l .1)) ∙ is)
     by-letters (inr empty) (inl m) = second-again (single a) (m .0) ch e f empty (sym (ap (textEvent ch (single a)) (m .1)) ∙ is)

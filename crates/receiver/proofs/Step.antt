@@ -8,11 +8,12 @@ use mathlib.Core.Path.{_≡_, refl, ap, sym, _∙_}
 use Prim.Native.Nat.{ℕ}
 use Rattle.code.proofs.OneAnswer.{clash}
 use Rattle.code.proofs.Written.{even-is-refused, odd-is-read, read-as-text, single-is-no-command}
-use Rattle.code.specs.Code.{controlChar}
+use Rattle.code.specs.Code.{symbolChar}
 use Rattle.code.specs.Outcome.{Outcome, answer, refused}
 use Rattle.code.specs.Parity.{isOdd, stripped}
 use Rattle.code.specs.Read.{codesOfBytes, isCommand, isOddPair, readPair, single}
 use Rattle.code.specs.declared.channel.Channel.{Channel}
+use Rattle.code.specs.declared.character.Character.the-variants.{Absent}
 use Rattle.code.specs.declared.code.Code.{Code}
 use Rattle.code.specs.declared.code.Code.the-variants as code
 use Rattle.code.specs.declared.control.Command.the-variants.{AlarmOff, AlarmOn, FlashOn, TextRestart, ResumeTextDisplay}
@@ -115,7 +116,7 @@ commands-without-event ch = refl
 pub unknown-without-event : (ch : Channel) (a b : ℕ) → controlEvent ch (control.Unknown a b) ≡ none
 unknown-without-event ch a b = refl
 
-pub symbol-without-event : (ch : Channel) (s : Symbol) → controlChar (control.Symbol s) ≡ none → controlEvent ch (control.Symbol s) ≡ none
+pub symbol-without-event : (ch : Channel) (s : Symbol) → symbolChar s ≡ Absent → controlEvent ch (control.Symbol s) ≡ none
 symbol-without-event ch s h = rw h
 
 -- such a command sets the channel and gives no event

@@ -1,14 +1,14 @@
 -- Text that shares one pair is heard, with the mark that its first code has; any text is heard character by character.
 -- Assumes nothing.
-use mathlib.Core.Bool.{false, true≢false}
-use mathlib.Core.Option.{Option, Option·none-ne-some, none, some}
+use mathlib.Core.Bool.{true≢false}
+use mathlib.Core.Option.{Option, some}
 use mathlib.Core.Path.{_≡_, refl, ap, ap₂, sym, subst, _∙_}
 use Prim.Native.Nat.{ℕ}
 use native.Mathlib.Omega.{arith}
-use Rattle.code.proofs.BothWays.{a-characters-code-has-it, a-characters-control-is-a-symbol, a-letter-has-a-character}
+use Rattle.code.proofs.BothWays.{a-characters-code-has-it, a-characters-control-is-a-symbol, a-letter-has-a-character, absent-is-no-point}
 use Rattle.code.proofs.OneAnswer.{same}
 use Rattle.code.proofs.ReadBack.{symbol-reads-back, text-reads-back}
-use Rattle.code.specs.Code.{charOf, characterOutcome, controlChar, needsBackspace}
+use Rattle.code.specs.Code.{charOf, needsBackspace, symbolChar}
 use Rattle.code.specs.Outcome.{Outcome, answer, refused}
 use Rattle.code.specs.ReadBack.{TextReadsBack}
 use Rattle.code.specs.declared.channel.Channel.{Channel}
@@ -29,7 +29,7 @@ use Rattle.event.specs.declared.event.Cea608.the-variants as event
 use Rattle.event.specs.declared.event.Text.{Text}
 use Rattle.receiver.proofs.SaidIsHeard.{control-reported, first-code, second-code}
 use Rattle.receiver.specs.Heard as heard
-use Rattle.receiver.specs.Heard.{textEvent, textOf}
+use Rattle.receiver.specs.Heard.{plainText, textEvent, textOf}
 use Rattle.receiver.specs.Receiver.{afterReading, heardCodes, heardText, lastField, state, step, Stepped, textFor}
 use Rattle.receiver.specs.SaidIsHeard.{CharacterByCharacterLaw, HeardAlone, InOnePair, Reported, TextIsHeardLaw, marked, only, only-a-first, only-a-second, only-a-symbol, two-letters}
 use Rattle.receiver.specs.declared.state.Cea608State.{Cea608State}
@@ -38,7 +38,7 @@ use Rattle.receiver.specs.declared.state.LastChannel.the-variants as cha
 use Rattle.receiver.specs.declared.state.LastPair.the-variants as last
 
 -- the code of a character, or NUL for none, has that character
-pub has-its-character : (k : Character) (ch : Channel) (x : Code) → characterCode k ch ≡ answer x → charOf x ≡ characterOutcome k
+pub has-its-character : (k : Character) (ch : Channel) (x : Code) → characterCode k ch ≡ answer x → charOf x ≡ k
 unfolding charOf
 has-its-character (character.Point c) ch x e = a-characters-code-has-it c ch x e
 has-its-character character.Absent ch x e = ap charOf (sym (same e))
@@ -52,9 +52,8 @@ both-codes (refused n) (answer w) x y e = let z : _≡_ {A = ℕ} 0 1 = cc in ab
 both-codes (refused n) (refused m) x y e = let z : _≡_ {A = ℕ} 0 1 = cc in absurd (omega arith)
 
 -- a text with a character, from its characters
-made : (ch : Channel) (k l : Character) → (characterOutcome k ≡ none → characterOutcome l ≡ none → ⊥) → textOf ch (characterOutcome k) (characterOutcome l) ≡ some (event.Text (record { «needs_backspace» = false; char1 = k; char2 = l; channel = ch }))
-made ch (character.Point c) (character.Point d) some-character = refl
-made ch (character.Point c) character.Absent some-character = refl
+made : (ch : Channel) (k l : Character) → (k ≡ character.Absent → l ≡ character.Absent → ⊥) → textOf ch k l ≡ some (plainText ch k l)
+made ch (character.Point c) l some-character = refl
 made ch character.Absent (character.Point d) some-character = refl
 made ch character.Absent character.Absent some-character = absurd (some-character refl refl)
 
@@ -73,26 +72,22 @@ plain-reported t f x y back as-text is = record {
 }
 
 module _ (t : Text) (x y : Code) (first : characterCode (t .char1) (t .channel) ≡ answer x) (second : characterCode (t .char2) (t .channel) ≡ answer y) where
-  first-is : charOf x ≡ characterOutcome (t .char1)
+  first-is : charOf x ≡ t .char1
   first-is = has-its-character (t .char1) (t .channel) x first
 
-  second-is : charOf y ≡ characterOutcome (t .char2)
+  second-is : charOf y ≡ t .char2
   second-is = has-its-character (t .char2) (t .channel) y second
 
-  pub its-text : (charOf x ≡ none → charOf y ≡ none → ⊥) → textEvent (t .channel) x y ≡ some (event.Text (record { «needs_backspace» = false; char1 = t .char1; char2 = t .char2; channel = t .channel }))
+  pub its-text : (charOf x ≡ character.Absent → charOf y ≡ character.Absent → ⊥) → textEvent (t .channel) x y ≡ some (plainText (t .channel) (t .char1) (t .char2))
   unfolding textEvent
   its-text some-character =
       ap₂ (textOf (t .channel)) first-is second-is
       ∙ made (t .channel) (t .char1) (t .char2) (λ no-first no-second. some-character (first-is ∙ no-first) (second-is ∙ no-second))
 
-has-one : (l : Letter) → charOf (code.Letter l) ≡ none → ⊥
-has-one l e = let has = a-letter-has-a-character l in Option·none-ne-some (has .0) (sym e ∙ has .1)
+has-one : (l : Letter) → charOf (code.Letter l) ≡ character.Absent → ⊥
+has-one l e = absent-is-no-point (sym e ∙ a-letter-has-a-character l .1)
 
 -- a symbol alone
-absent-by : (k : Character) → characterOutcome k ≡ none → k ≡ character.Absent
-absent-by (character.Point c) e = absurd (Option·none-ne-some c (sym e))
-absent-by character.Absent e = refl
-
 abbrev bareSymbol : Channel → Symbol → ControlCode
 bareSymbol ch s = record { field = field.Absent; channel = ch; control = control.Symbol s }
 
@@ -104,8 +99,8 @@ unfolding charOf
 symbol-heard f ch (character.Point p) l c first second =
     let found = a-characters-control-is-a-symbol p ch c first in
     let s = found .0 in
-    let has : controlChar (control.Symbol s) ≡ some p = ap charOf (sym (ap code.Control (found .1))) ∙ a-characters-code-has-it p ch (code.Control c) first in
-    let none-left : l ≡ character.Absent = absent-by l (sym (has-its-character l ch code.Nul second)) in
+    let has : symbolChar s ≡ character.Point p = ap charOf (sym (ap code.Control (found .1))) ∙ a-characters-code-has-it p ch (code.Control c) first in
+    let none-left : l ≡ character.Absent = sym (has-its-character l ch code.Nul second) in
     subst (λ (d : ControlCode). Reported (code.Control d) code.Nul f (asText d (character.Point p) l ch)) (sym (found .1))
     (subst (λ (m : Character). Reported (code.Control (bareSymbol ch s)) code.Nul f (asText (bareSymbol ch s) (character.Point p) m ch)) (sym none-left)
     (control-reported field.Absent f ch (control.Symbol s) _ (symbol-reads-back field.Absent ch s) (ap (heard.symbolText ch s) has) refl refl))
@@ -130,18 +125,18 @@ text-is-heard t f x y told one =
     shared t f x y (both .0) (both .1) one
 
 -- a character's code alone is a letter or a symbol
-alone-in-one : (c : ℕ) (x : Code) → charOf x ≡ some c → InOnePair x code.Nul
+alone-in-one : (c : ℕ) (x : Code) → charOf x ≡ character.Point c → InOnePair x code.Nul
 unfolding charOf
-alone-in-one c code.Nul has = absurd (Option·none-ne-some c has)
+alone-in-one c code.Nul has = absurd (absent-is-no-point has)
 alone-in-one c (code.Control s) has = only-a-symbol s
 alone-in-one c (code.Letter l) has = only-a-first l
-alone-in-one c (code.Unknown b) has = absurd (Option·none-ne-some c has)
+alone-in-one c (code.Unknown b) has = absurd (absent-is-no-point has)
 
 heard-alone : (t : Text) (f : Field) (x : Code) (k : Character) → characterCode k (t .channel) ≡ answer x → HeardAlone t f x k
 unfolding codesOf
 heard-alone t f x k told c is =
     text-is-heard (only t x k) f x code.Nul (ap (λ (o : Outcome Code). inOrder o (answer code.Nul)) told)
-    (alone-in-one c x (has-its-character k (t .channel) x told ∙ ap characterOutcome is))
+    (alone-in-one c x (has-its-character k (t .channel) x told ∙ is))
 
 pub character-by-character : CharacterByCharacterLaw
 unfolding codesOf

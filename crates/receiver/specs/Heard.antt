@@ -1,9 +1,8 @@
 -- The events that codes encode. What a command does is from 47 CFR 79.101 (f) and (h); that alarms, flash, the text
 -- commands, `Unknown` and a symbol without a character give none is from 01.
-use Prim.Native.Nat.{ℕ}
 use mathlib.Core.Bool.{false}
 use mathlib.Core.Option.{Option, none, some}
-use Rattle.code.specs.Code.{charOf, controlChar, controlNeedsBackspace}
+use Rattle.code.specs.Code.{charOf, controlNeedsBackspace, symbolChar}
 use Rattle.code.specs.Control.{tabNumber}
 use Rattle.code.specs.Outcome.{Outcome, answer, refused}
 use Rattle.code.specs.declared.channel.Channel.{Channel}
@@ -54,15 +53,10 @@ orNewMode ch none m = newMode ch m
 abbrev pub commandEvent : Channel → Command → Option Cea608
 commandEvent ch c = orNewMode ch (ownEvent ch c) (modeOf c)
 
--- a character that may be absent
-abbrev pub characterFrom : Option ℕ → Character
-characterFrom none = character.Absent
-characterFrom (some c) = character.Point c
-
 -- a symbol's character, which takes the place of the one before it where the symbol is an extended one
-abbrev pub symbolText : Channel → Symbol → Option ℕ → Option Cea608
-symbolText ch s none = none
-symbolText ch s (some c) =
+abbrev pub symbolText : Channel → Symbol → Character → Option Cea608
+symbolText ch s character.Absent = none
+symbolText ch s (character.Point c) =
     some
     (event.Text
     (record {
@@ -73,7 +67,7 @@ symbolText ch s (some c) =
     }))
 
 abbrev pub symbolEvent : Channel → Symbol → Option Cea608
-symbolEvent ch s = symbolText ch s (controlChar (control.Symbol s))
+symbolEvent ch s = symbolText ch s (symbolChar s)
 
 abbrev pub controlEvent : Channel → Control → Option Cea608
 controlEvent ch (control.MidRow m) = some (event.MidRowChange ch m)
@@ -87,10 +81,13 @@ unfoldable pub eventOf : ControlCode → Option Cea608
 eventOf c = controlEvent (c .channel) (c .control)
 
 -- one or two characters, or nothing where there is none
-abbrev pub textOf : Channel → Option ℕ → Option ℕ → Option Cea608
-textOf ch none none = none
-textOf ch none (some d) = some (event.Text (record { «needs_backspace» = false; char1 = character.Absent; char2 = character.Point d; channel = ch }))
-textOf ch (some c) second = some (event.Text (record { «needs_backspace» = false; char1 = character.Point c; char2 = characterFrom second; channel = ch }))
+abbrev pub plainText : Channel → Character → Character → Cea608
+plainText ch one two = event.Text (record { «needs_backspace» = false; char1 = one; char2 = two; channel = ch })
+
+abbrev pub textOf : Channel → Character → Character → Option Cea608
+textOf ch (character.Point c) two = some (plainText ch (character.Point c) two)
+textOf ch character.Absent (character.Point d) = some (plainText ch character.Absent (character.Point d))
+textOf ch character.Absent character.Absent = none
 
 unfoldable pub textEvent : Channel → Code → Code → Option Cea608
 textEvent ch x y = textOf ch (charOf x) (charOf y)

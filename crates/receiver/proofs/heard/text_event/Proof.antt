@@ -1,7 +1,6 @@
 -- `receiver::heard::text_event` meets its contract: an event where either code has a character.
 -- Assumes nothing.
 use borrow.Author.Needs.{needs}
-use Rattle.receiver.proofs.Codes.{character-back}
 use Rattle.receiver.proofs.heard.text_event.Statement.{statement}
 use Rattle.receiver.specs.Heard.{textEvent}
 use Rattle.receiver.proofs.heard.text_event.Tie as tie
@@ -26,7 +25,7 @@ enum-told-4 c = search needs
 
 returns : tie.Need-returns
 unfolding textEvent
-returns c = rw (← c .before .before .before .char .ensures, ← c .before .before .char2 .ensures, c .enum-told .given .1, character-back)
+returns c = rw (← c .before .before .before .char .ensures, ← c .before .before .char2 .ensures, c .enum-told .given .1)
 
 returns-2 : tie.Need-returns-2
 unfolding textEvent
