@@ -11,5 +11,10 @@ pub both-right : (t u : Bool) → (t && u) ≡ true → u ≡ true
 both-right true u e = e
 both-right false u e = absurd (true≢false (sym e))
 
+-- where the second fails, they do not hold together
+pub both-fail : (t : Bool) → (t && false) ≡ false
+both-fail true = refl
+both-fail false = refl
+
 pub both-true : (t u : Bool) → (t && u) ≡ true → (t ≡ true) × (u ≡ true)
 both-true t u e = (both-left t u e, both-right t u e)

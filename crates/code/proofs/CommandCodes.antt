@@ -6,21 +6,21 @@ use mathlib.Core.Path.{_≡_, refl, ap, sym, subst, _∙_}
 use Prim.Native.Nat.{ℕ, _+_, _<_}
 use native.Mathlib.Omega.{arith}
 use borrow.Author.Tests.{eqb-true, leb-true, ltb-true}
-use lib.Dec.{eqb, leb, lit<, ltb}
+use lib.Dec.{eqb, leb, lit<}
 use Rattle.code.proofs.Agree.{agree}
 use Rattle.code.proofs.Both.{both-left, both-right}
 use Rattle.code.proofs.Numbers.{letter-small}
+use Rattle.code.proofs.Ranges.{command-range}
 use Rattle.code.proofs.Written.{data-kept}
-use Rattle.code.specs.Control.{commandNumber, tabNumber}
+use Rattle.code.specs.Control.{commandNumber, namesField, tabNumber}
 use Rattle.code.specs.Letter.{letterPlace}
 use Rattle.code.specs.Outcome.{Outcome, answer, refused}
 use Rattle.code.specs.Pair.{pair}
 use Rattle.code.specs.Parity.{stripped, withParity}
 use Rattle.code.specs.Read.{isCommand}
 use Rattle.code.specs.Preamble.{rowPrefix}
-use Rattle.code.specs.Range.{within}
 use Rattle.code.specs.Symbol.{symbolBase}
-use Rattle.code.specs.Write.{asCommand, asSingle, controlBytes, isCommandCode, isCommandControl, isFieldTwo, midRowBytes, onLine, preambleBytes, symbolBytes, withBit8, withChannel, withField, writeCode}
+use Rattle.code.specs.Write.{asCommand, asSingle, controlBytes, isCommandCode, isCommandControl, isFieldTwo, isSevenBits, midRowBytes, onLine, preambleBytes, symbolBytes, withBit8, withChannel, withField, writeCode}
 use Rattle.code.specs.declared.channel.Channel.{Channel}
 use Rattle.code.specs.declared.code.Code.{Code}
 use Rattle.code.specs.declared.code.Code.the-variants as code
@@ -53,10 +53,10 @@ unfolding onLine
 line-says f ch p less =
     let two = isFieldTwo f in
     let at14 = eqb (p .0) 0x14 in
-    let behind = within 0x20 0x2F (p .1) in
+    let before = namesField (p .1) in
     ap isCommand (data-kept (withChannel ch (withField f p)))
-    ∙ field-says (two && at14 && behind) ch (p .0)
-    (λ (e : (two && at14 && behind) ≡ true). eqb-true (p .0) 0x14 (both-right two at14 (both-left (two && at14) behind e)))
+    ∙ field-says (two && at14 && before) ch (p .0)
+    (λ (e : (two && at14 && before) ≡ true). eqb-true (p .0) 0x14 (both-right two at14 (both-left (two && at14) before e)))
     less
 
 -- the first bytes of the rows of symbols and of preambles
@@ -77,11 +77,8 @@ preamble-says : (p : PreambleAddressCode) → p .row < 15 → isCommand (preambl
 preamble-says p less = prefix-says (p .row) less
 
 -- a first byte of 10 to 1F is still one when sent
-command-small : (a : ℕ) → isCommand a ≡ true → a < 128
-command-small a e = omega (arith, leb-true a 0x1F (both-right (leb 0x10 a) (leb a 0x1F) e))
-
 goes-out : (f : CodeField) (ch : Channel) (p : Pair) → isCommand (p .0) ≡ true → isCommand (stripped (onLine f ch p .0)) ≡ true
-goes-out f ch p e = line-says f ch p (command-small (p .0) e) ∙ e
+goes-out f ch p e = line-says f ch p (omega (arith, command-range (p .0) e)) ∙ e
 
 -- of an outcome: if it is an answer, b says whether its first byte is 10 to 1F
 abbrev Says : Bool → Outcome (Pair × ℕ) → Type 0
@@ -92,8 +89,8 @@ preamble-goes-out : (f : CodeField) (ch : Channel) (p : PreambleAddressCode) (t 
 preamble-goes-out f ch p true e = goes-out f ch (preambleBytes p) (preamble-says p (omega (arith, leb-true (p .row) 14 e)))
 preamble-goes-out f ch p false e = tt
 
-unknown-goes-out : (f : CodeField) (ch : Channel) (a b : ℕ) (t : Bool) → (ltb a 0x80 && ltb b 0x80) ≡ t → Says (isCommand a) (asCommand f ch (cond t (answer (pair a b)) (refused 2)))
-unknown-goes-out f ch a b true e = line-says f ch (pair a b) (ltb-true a 0x80 (both-left (ltb a 0x80) (ltb b 0x80) e))
+unknown-goes-out : (f : CodeField) (ch : Channel) (a b : ℕ) (t : Bool) → (isSevenBits a && isSevenBits b) ≡ t → Says (isCommand a) (asCommand f ch (cond t (answer (pair a b)) (refused 2)))
+unknown-goes-out f ch a b true e = line-says f ch (pair a b) (ltb-true a 0x80 (both-left (isSevenBits a) (isSevenBits b) e))
 unknown-goes-out f ch a b false e = tt
 
 control-says : (f : CodeField) (ch : Channel) (c : Control) → Says (isCommandControl c) (asCommand f ch (controlBytes c))
@@ -103,12 +100,12 @@ control-says f ch (control.Symbol s) = goes-out f ch (symbolBytes s) (symbol-say
 control-says f ch (control.Command c) = goes-out f ch (pair 0x14 (0x20 + commandNumber c)) refl
 control-says f ch (control.Tab t) = goes-out f ch (pair 0x17 (0x20 + tabNumber t)) refl
 control-says f ch (control.Preamble p) = preamble-goes-out f ch p (leb (p .row) 14) refl
-control-says f ch (control.Unknown a b) = unknown-goes-out f ch a b (ltb a 0x80 && ltb b 0x80) refl
+control-says f ch (control.Unknown a b) = unknown-goes-out f ch a b (isSevenBits a && isSevenBits b) refl
 
 letter-says : (n : ℕ) → n < 96 → isCommand (0x20 + n) ≡ false
 letter-says n less = agree (λ (x : ℕ). isCommand (0x20 + x)) (λ (x : ℕ). false) 96 refl n less
 
-single-says : (b : ℕ) (t : Bool) → ltb b 0x80 ≡ t → Says (isCommand b) (cond t (asSingle b) (refused 2))
+single-says : (b : ℕ) (t : Bool) → isSevenBits b ≡ t → Says (isCommand b) (cond t (asSingle b) (refused 2))
 single-says b true e = parity-says b (ltb-true b 0x80 e)
 single-says b false e = tt
 
@@ -118,7 +115,7 @@ code-says code.Nul = parity-says 0 (lit< tt)
 code-says (code.Control c) = control-says (c .field) (c .channel) (c .control)
 code-says (code.Letter l) =
     parity-says (0x20 + letterPlace l) (omega (arith, letter-small l)) ∙ letter-says (letterPlace l) (letter-small l)
-code-says (code.Unknown b) = single-says b (ltb b 0x80) refl
+code-says (code.Unknown b) = single-says b (isSevenBits b) refl
 
 -- a written code has a first byte of 10 to 1F exactly where it is one that is sent as a command
 pub written-says-command : (c : Code) (p : Pair) (n : ℕ) → writeCode c ≡ answer (p, n) → isCommand (stripped (p .0)) ≡ isCommandCode c

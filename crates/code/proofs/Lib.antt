@@ -18,5 +18,6 @@ pub mod OneAnswer
 pub mod Ranges
 pub mod ReadBack
 pub mod RoundTrip
+pub mod SamePair
 pub mod TableRules
 pub mod Written

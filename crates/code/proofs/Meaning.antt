@@ -1,7 +1,7 @@
 -- What the two bytes of a control code mean, as the code decides it: a preamble by the rows of its first byte, the rest
 -- by the first byte and then the second's upper digit. One computation over all pairs shows that it is the definition.
 -- Assumes nothing.
-use mathlib.Core.Bool.{Bool, true, false, cond, _&&_}
+use mathlib.Core.Bool.{Bool, true, cond, _&&_}
 use mathlib.Core.Option.{Option, none, some}
 use mathlib.Core.Path.{_≡_, refl, ap, sym, _∙_}
 use Prim.Native.Nat.{ℕ, _+_, _/_, _%_, _≤_, _<_}
@@ -9,10 +9,10 @@ use borrow.Author.Tests.{le-leb, lt-leb, ltb-true}
 use lib.Dec.{eqb, leb, ltb, lit<, lit≤}
 use native.Mathlib.Omega.{arith}
 use Rattle.code.proofs.Agree.{agree, agree-from, agree-grid}
-use Rattle.code.specs.Control.{commandAt}
+use Rattle.code.proofs.Ranges.{still-between}
+use Rattle.code.specs.Control.{commandAt, namesField}
 use Rattle.code.specs.MidRow.{midRowAt}
 use Rattle.code.specs.Preamble.{styleAt}
-use Rattle.code.specs.Range.{within}
 use Rattle.code.specs.Read.{channelOf, controlCodeOf, fieldOf, isCommand, meaning, orUnknown, symbolIn, underlined, withoutChannel, withoutField}
 use Rattle.code.specs.Tables.{firstRowAt, meaningOf, tabIn}
 use Rattle.code.specs.declared.channel.Channel.{Channel}
@@ -65,20 +65,16 @@ pub in-row-one : (a : ℕ) → a < 128 → eqb (a / 16) 1 ≡ isCommand a
 in-row-one a less = agree (λ (x : ℕ). eqb (x / 16) 1) isCommand 128 refl a less
 
 -- 20 to 2F, by the upper digit
-pub in-row-two : (b : ℕ) → b < 256 → eqb (b / 16) 2 ≡ within 0x20 0x2F b
-in-row-two b less = agree (λ (x : ℕ). eqb (x / 16) 2) (within 0x20 0x2F) 256 refl b less
+pub in-row-two : (b : ℕ) → b < 256 → eqb (b / 16) 2 ≡ namesField b
+in-row-two b less = agree (λ (x : ℕ). eqb (x / 16) 2) namesField 256 refl b less
 
 -- the remainder drops the channel bit
 pub without-channel : (a : ℕ) → 16 ≤ a → a < 32 → a % 8 + 16 ≡ withoutChannel a
 without-channel a from below = agree-from (λ (x : ℕ). x % 8 + 16) withoutChannel 16 16 refl a from below
 
 -- taking the field away keeps the first byte between 10 and 17
-between : (t : Bool) (p : ℕ) → 16 ≤ p → p < 24 → (16 ≤ cond t 0x14 p) × (cond t 0x14 p < 24)
-between true p from below = (lit≤ tt, lit< tt)
-between false p from below = (from, below)
-
 pub without-field-between : (p b : ℕ) → 16 ≤ p → p < 24 → (16 ≤ withoutField p b) × (withoutField p b < 24)
-without-field-between p b from below = between (within 0x20 0x2F b && eqb p 0x15) p from below
+without-field-between p b from below = still-between (namesField b && eqb p 0x15) 0x14 p (lit≤ tt, lit< tt) (from, below)
 
 -- a control code put together from its parts
 abbrev pub meantOr : ℕ → ℕ → Meaning → Control

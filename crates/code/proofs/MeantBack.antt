@@ -5,7 +5,6 @@ use mathlib.Core.Bool.{Bool, true, false, _&&_}
 use mathlib.Core.Option.{Option, some}
 use mathlib.Core.Path.{_≡_, refl, ap, _∙_}
 use Prim.Native.Nat.{ℕ, _+_, _*_, _<_, zero-le}
-use lib.Dec.{ltb}
 use Rattle.code.proofs.Agree.{agree, agree-grid}
 use Rattle.code.proofs.Numbers.{column-back, command-back, kind-small, style-back, symbol-row-back}
 use Rattle.code.specs.Color.{colorNumber}
@@ -16,7 +15,7 @@ use Rattle.code.specs.Pair.{pair, plus}
 use Rattle.code.specs.Preamble.{rowPrefix, styleAt, styleOf}
 use Rattle.code.specs.Read.{isCommand, meaning}
 use Rattle.code.specs.Symbol.{symbolBase, symbolRowAt, symbolRowNumber}
-use Rattle.code.specs.Write.{bit, midRowBytes, preambleBytes, symbolBytes}
+use Rattle.code.specs.Write.{bit, isSevenBits, midRowBytes, preambleBytes, symbolBytes}
 use Rattle.code.specs.declared.color.Color as color
 use Rattle.code.specs.declared.color.Color.the-variants.{White, Green, Blue, Cyan, Red, Yellow, Magenta}
 use Rattle.code.specs.declared.column.Column.{Column}
@@ -40,7 +39,7 @@ meant p = meaning (p .0) (p .1)
 
 -- bytes of a control code: the first 10 to 1F, the second of seven bits
 abbrev pub isPairOfControl : Pair → Bool
-isPairOfControl p = isCommand (p .0) && ltb (p .1) 0x80
+isPairOfControl p = isCommand (p .0) && isSevenBits (p .1)
 
 -- mid-row codes
 color-again : (c : color.Color) (u : Bool) → midRowAt (colorNumber c) u ≡ record { color = kind.Color c; underline = u }

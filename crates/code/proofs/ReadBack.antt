@@ -2,29 +2,29 @@
 -- bytes name, and single codes as they were. With `RoundTrip`, which goes from pairs to codes and back, this goes from codes to pairs and
 -- back.
 -- Assumes nothing.
-use mathlib.Core.Bool.{Bool, true, false, cond, _&&_, true≢false}
+use mathlib.Core.Bool.{Bool, true, false, _&&_, true≢false}
 use mathlib.Core.Option.{Option, Option·none-ne-some, none, some}
 use mathlib.Core.Path.{_≡_, refl, ap, ap₂, sym, _∙_}
 use Prim.Native.Nat.{ℕ, _+_, _≤_, _<_}
-use borrow.Author.Tests.{le-leb, leb-true, ltb-false, ltb-true}
+use borrow.Author.Tests.{le-leb, ltb-false, ltb-true}
 use native.Mathlib.Omega.{arith}
-use lib.Dec.{eqb, leb, lit<, lit≤, ltb}
+use lib.Dec.{eqb, lit<, lit≤, ltb}
 use Rattle.code.proofs.Agree.{agree, agree-from, agree-grid}
 use Rattle.code.proofs.Both.{both-true}
-use Rattle.code.proofs.KindByKind.{control-written, letter-written}
+use Rattle.code.proofs.KindByKind.{bytes-written, letter-written}
 use Rattle.code.proofs.MeantBack.{command-meant, command-pair, isPairOfControl, meant, mid-row-meant, mid-row-pair, preamble-meant, preamble-pair, symbol-meant, symbol-pair, tab-meant, tab-pair}
 use Rattle.code.proofs.Numbers.{letter-again, letter-small}
+use Rattle.code.proofs.Ranges.{command-range, still-between}
 use Rattle.code.proofs.Written.{data-kept, read-as-command, read-as-text, with-parity}
 use Rattle.code.specs.Channel.{channelOne, channelTwo, fieldOne, fieldTwo}
-use Rattle.code.specs.Control.{commandNumber, tabNumber}
+use Rattle.code.specs.Control.{commandNumber, namesField, tabNumber}
 use Rattle.code.specs.Letter.{letterAt, letterPlace}
 use Rattle.code.specs.Outcome.{Outcome, answer}
 use Rattle.code.specs.Pair.{pair}
 use Rattle.code.specs.Parity.{stripped, withParity}
-use Rattle.code.specs.Range.{within}
 use Rattle.code.specs.Read.{channelOf, controlCodeOf, fieldOf, isCommand, isCommandPair, meaning, orUnknown, readPair, single, withoutChannel, withoutField}
 use Rattle.code.specs.ReadBack.{ReadsBack, TextReadsBack, fieldRead, isPlain}
-use Rattle.code.specs.Write.{asSingle, controlBytes, isFieldTwo, midRowBytes, onLine, preambleBytes, symbolBytes, together, withChannel, withField, writeCode}
+use Rattle.code.specs.Write.{asSingle, controlBytes, isFieldTwo, isSevenBits, midRowBytes, onLine, preambleBytes, symbolBytes, together, withChannel, withField, writeCode}
 use Rattle.code.specs.declared.channel.Channel.{Channel}
 use Rattle.code.specs.declared.code.Code.{Code}
 use Rattle.code.specs.declared.code.Code.the-variants as code
@@ -95,12 +95,8 @@ field-meant (Of f) a b from below less = named (f .0)
     named false = agree-grid (λ (x y : ℕ). ifMeantField (meaning x y) (fieldWritten (Of fieldTwo) x y)) (λ (x y : ℕ). fieldMeant (Of fieldTwo) (meaning x y)) 16 8 128 refl a b from below less
 
 -- 14 becomes 15 at most, so that the first byte stays between 10 and 17
-between : (t : Bool) (a : ℕ) → 16 ≤ a → a < 24 → (16 ≤ cond t 0x15 a) × (cond t 0x15 a < 24)
-between true a from below = (lit≤ tt, lit< tt)
-between false a from below = (from, below)
-
 field-between : (f : CodeField) (a b : ℕ) → 16 ≤ a → a < 24 → (16 ≤ withField f (pair a b)) × (withField f (pair a b) < 24)
-field-between f a b from below = between (isFieldTwo f && eqb a 0x14 && within 0x20 0x2F b) a from below
+field-between f a b from below = still-between (isFieldTwo f && eqb a 0x14 && namesField b) 0x15 a (lit≤ tt, lit< tt) (from, below)
 
 channel-between : (ch : Bool) (a : ℕ) → 16 ≤ a → a < 24 → (isCommand (withChannel (record { 0 = ch }) a) ≡ true) × (stripped (withChannel (record { 0 = ch }) a) ≡ withChannel (record { 0 = ch }) a)
 channel-between true a from below = (
@@ -178,15 +174,14 @@ first-below a b c false e to less means =
 
 by-bytes : (f : CodeField) (ch : Channel) (c : Control) (p : Pair) → controlBytes c ≡ answer p → isPairOfControl p ≡ true → meant p ≡ some c → ReadsBack f ch c
 by-bytes f ch c p bytes fits means =
-    let range = both-true (isCommand (p .0)) (ltb (p .1) 0x80) fits in
-    let first = both-true (leb 0x10 (p .0)) (leb (p .0) 0x1F) (range .0) in
-    let from = leb-true 0x10 (p .0) (first .0) in
-    let to : p .0 < 32 = omega (arith, leb-true (p .0) 0x1F (first .1)) in
-    let less = ltb-true (p .1) 0x80 (range .1) in
-    let below = first-below (p .0) (p .1) c (ltb (p .0) 24) refl to less means in
+    let both = both-true (isCommand (p .0)) (isSevenBits (p .1)) fits in
+    let first = command-range (p .0) (both .0) in
+    let from = first .0 in
+    let less = ltb-true (p .1) 0x80 (both .1) in
+    let below = first-below (p .0) (p .1) c (ltb (p .0) 24) refl (first .1) less means in
     record {
       pair = onLine f ch p;
-      written = control-written (record { field = f; channel = ch; control = c }) p bytes;
+      written = bytes-written (record { field = f; channel = ch; control = c }) p bytes;
       read = bytes-read-back f ch (p .0) (p .1) c from below less means;
       is-command = sent-as-command f ch (p .0) (p .1) c from below less means;
     }

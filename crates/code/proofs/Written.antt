@@ -6,7 +6,7 @@ use mathlib.Core.Path.{_≡_, refl, ap, subst, sym}
 use Prim.Native.Nat.{ℕ, _+_, _-_, _<_}
 use native.Mathlib.Omega.{arith}
 use lib.Count.{ones, onesIn}
-use lib.Dec.{eqb, leb, lit<, ltb}
+use lib.Dec.{eqb, leb, lit<}
 use Rattle.code.proofs.Agree.{agree}
 use Rattle.code.specs.Code.{byteLen}
 use Rattle.code.specs.Outcome.{Outcome, answer, refused}
@@ -14,8 +14,8 @@ use Rattle.code.specs.Parity.{isOdd, stripped, withParity}
 use Rattle.code.proofs.OneAnswer.{clash, same}
 use Rattle.code.specs.Letter.{letterAt}
 use Rattle.code.specs.Pair.{pair}
-use Rattle.code.specs.Read.{codesOfBytes, controlCodeOf, isCommand, readPair, single}
-use Rattle.code.specs.Write.{asCommand, asSingle, controlBytes, controlInDomain, inDomain, onLine, preambleBytes, writeCode}
+use Rattle.code.specs.Read.{codesOfBytes, controlCodeOf, isCommand, isOddPair, readPair, single}
+use Rattle.code.specs.Write.{asCommand, asSingle, controlBytes, controlInDomain, inDomain, isSevenBits, onLine, preambleBytes, writeCode}
 use Rattle.code.specs.declared.channel.Channel.{Channel}
 use Rattle.code.specs.declared.code.Code.{Code}
 use Rattle.code.specs.declared.code.Code.the-variants as code
@@ -74,7 +74,7 @@ unfolding writeCode
 good code.Nul = good-single 0
 good (code.Control c) = good-command (c .field) (c .channel) (controlBytes (c .control))
 good (code.Letter l) = good-single _
-good (code.Unknown b) = good-unknown (ltb b 0x80) b
+good (code.Unknown b) = good-unknown (isSevenBits b) b
 
 -- a written code: odd parity in both bytes, and its own length
 pub written-is-sent : (c : Code) (p : Pair) (n : ℕ) → writeCode c ≡ answer (p, n) → SentPair p × (n ≡ byteLen c)
@@ -90,11 +90,11 @@ unfolding readPair
 read-as-text a b oa ob e = rw (oa, ob, e)
 
 -- and one with a byte of even parity is refused, 1
-pub even-is-refused : (a b : ℕ) → (isOdd a && isOdd b) ≡ false → readPair a b ≡ refused 1
+pub even-is-refused : (a b : ℕ) → isOddPair (pair a b) ≡ false → readPair a b ≡ refused 1
 unfolding readPair
 even-is-refused a b e = rw e
 
-pub odd-is-read : (a b : ℕ) → (isOdd a && isOdd b) ≡ true → readPair a b ≡ answer (codesOfBytes (stripped a) (stripped b))
+pub odd-is-read : (a b : ℕ) → isOddPair (pair a b) ≡ true → readPair a b ≡ answer (codesOfBytes (stripped a) (stripped b))
 unfolding readPair
 odd-is-read a b e = rw e
 
@@ -118,14 +118,14 @@ control-settled f ch (control.Symbol s) = refl
 control-settled f ch (control.Command c) = refl
 control-settled f ch (control.Tab t) = refl
 control-settled f ch (control.Preamble p) = bytes-settled f ch (leb (p .row) 14) (preambleBytes p) 3
-control-settled f ch (control.Unknown a b) = bytes-settled f ch (ltb a 0x80 && ltb b 0x80) (pair a b) 2
+control-settled f ch (control.Unknown a b) = bytes-settled f ch (isSevenBits a && isSevenBits b) (pair a b) 2
 
 pub domain-is-written : (c : Code) → inDomain c ≡ settled (writeCode c)
 unfolding inDomain writeCode
 domain-is-written code.Nul = refl
 domain-is-written (code.Control c) = control-settled (c .field) (c .channel) (c .control)
 domain-is-written (code.Letter l) = refl
-domain-is-written (code.Unknown b) = tested (ltb b 0x80) (asSingle b) 2 refl
+domain-is-written (code.Unknown b) = tested (isSevenBits b) (asSingle b) 2 refl
 
 -- the data of a sent byte is the data that was written
 pub data-kept : (b : ℕ) → stripped (withParity b) ≡ stripped b
@@ -165,4 +165,4 @@ read-passed false a b c y e = absurd (clash (sym e))
 
 pub command-by-first-byte : (a b : ℕ) (c : ControlCode) (y : Code) → readPair a b ≡ answer (code.Control c, y) → isCommand (stripped a) ≡ true
 unfolding readPair
-command-by-first-byte a b c y e = read-passed (isOdd a && isOdd b) (stripped a) (stripped b) c y e
+command-by-first-byte a b c y e = read-passed (isOddPair (pair a b)) (stripped a) (stripped b) c y e

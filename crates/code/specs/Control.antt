@@ -1,7 +1,7 @@
 -- Control codes: the miscellaneous commands and the tab offsets, in the order of 47 CFR 79.101 (i). The field that a
 -- code may name is from CTA-608 as 01 has it; refusal 4 is 01's.
 use Prim.Native.Nat.{ℕ}
-use mathlib.Core.Bool.{cond}
+use mathlib.Core.Bool.{Bool, cond}
 use mathlib.Core.List.{List, [], _∷_}
 use lib.Dec.{eqb}
 use lib.ListN.{getD}
@@ -82,6 +82,10 @@ tabOffset n = cond (within 1 3 n) (answer (control.Tab (tabOf n))) (refused 4)
 abbrev pub tabOffsetOutcome : TabOffset → Outcome Control
 tabOffsetOutcome (Made c) = answer c
 tabOffsetOutcome NoSuchTab = refused 4
+
+-- where one of 20 to 2F follows, 14 names field one and 15 field two
+abbrev pub namesField : ℕ → Bool
+namesField b = within 0x20 0x2F b
 
 abbrev pub controlCode : Field → Channel → Control → ControlCode
 controlCode f ch c = record { field = Of f; channel = ch; control = c }

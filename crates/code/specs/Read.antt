@@ -6,7 +6,7 @@ use mathlib.Core.Option.{Option, none, some}
 use lib.Dec.{eqb, leb}
 use Rattle.code.specs.Channel.{channelOne, channelTwo, fieldOne, fieldTwo}
 use Rattle.code.specs.Column.{columnAt}
-use Rattle.code.specs.Control.{commandAt, tabOf}
+use Rattle.code.specs.Control.{commandAt, namesField, tabOf}
 use Rattle.code.specs.Letter.{letterAt}
 use Rattle.code.specs.MidRow.{midRowAt}
 use Rattle.code.specs.Outcome.{Outcome, answer, refused}
@@ -45,13 +45,12 @@ channelOf a = cond (leb a 0x17) channelOne channelTwo
 abbrev pub withoutChannel : ℕ → ℕ
 withoutChannel a = cond (leb a 0x17) a (a - 8)
 
--- 14 before 20 to 2F is field one's, 15 field two's; 15 then means what 14 does
+-- the field that 14 or 15 names; 15 then means what 14 does
 abbrev pub fieldOf : ℕ → ℕ → CodeField
-fieldOf p b =
-    cond (within 0x20 0x2F b) (cond (eqb p 0x14) (Of fieldOne) (cond (eqb p 0x15) (Of fieldTwo) Absent)) Absent
+fieldOf p b = cond (namesField b) (cond (eqb p 0x14) (Of fieldOne) (cond (eqb p 0x15) (Of fieldTwo) Absent)) Absent
 
 abbrev pub withoutField : ℕ → ℕ → ℕ
-withoutField p b = cond (within 0x20 0x2F b && eqb p 0x15) 0x14 p
+withoutField p b = cond (namesField b && eqb p 0x15) 0x14 p
 
 -- a preamble: its row by its prefix, its style in bits 0x1E
 abbrev pub rowOf : ℕ → ℕ → Option ℕ
@@ -78,7 +77,7 @@ meaning p b =
     (cond (isInRow French p b) (symbolIn French b)
     (cond (isInRow Portuguese p b) (symbolIn Portuguese b)
     (cond (isInRow German p b) (symbolIn German b)
-    (cond (eqb p 0x14 && within 0x20 0x2F b) (some (control.Command (commandAt (b - 0x20))))
+    (cond (eqb p 0x14 && namesField b) (some (control.Command (commandAt (b - 0x20))))
     (cond (eqb p 0x17 && within 0x21 0x23 b) (some (control.Tab (tabOf (b - 0x20)))) (preambleAt b (rowOf p b)))))))))
 
 -- what has no meaning keeps its two stripped bytes, with the channel bit
@@ -111,7 +110,7 @@ isCommandPair p = isCommand (stripped (p .0))
 
 -- the codes of a received pair; 1: a byte with an even count of ones
 unfoldable pub readPair : ℕ → ℕ → Outcome (Code × Code)
-readPair a b = cond (isOdd a && isOdd b) (answer (codesOfBytes (stripped a) (stripped b))) (refused 1)
+readPair a b = cond (isOddPair (pair a b)) (answer (codesOfBytes (stripped a) (stripped b))) (refused 1)
 
 abbrev pub fromDataOutcome : FromData → Outcome (Code × Code)
 fromDataOutcome (Codes x y) = answer (x, y)

@@ -4,14 +4,13 @@ use Prim.Native.Nat.{ℕ, _+_, _*_, _/_, _%_}
 use mathlib.Core.Bool.{Bool, true, false, cond, _&&_, not}
 use lib.Dec.{eqb, ltb}
 use Rattle.code.specs.Column.{columnNumber}
-use Rattle.code.specs.Control.{commandNumber, tabNumber}
+use Rattle.code.specs.Control.{commandNumber, namesField, tabNumber}
 use Rattle.code.specs.Letter.{letterPlace}
 use Rattle.code.specs.MidRow.{midRowNumber}
 use Rattle.code.specs.Outcome.{Outcome, answer, refused}
 use Rattle.code.specs.Pair.{pair, plus}
 use Rattle.code.specs.Parity.{withParity}
 use Rattle.code.specs.Preamble.{inRow, rowPrefix, styleOf}
-use Rattle.code.specs.Range.{within}
 use Rattle.code.specs.Read.{isCommand}
 use Rattle.code.specs.Symbol.{symbolBase}
 use Rattle.code.specs.declared.channel.Channel.{Channel}
@@ -52,7 +51,10 @@ preambleBytes p = plus (rowPrefix (p .row)) (2 * styleOf (p .ty) + bit (p .under
 abbrev pub rowBytes : PreambleAddressCode → Outcome Pair
 rowBytes p = inRow (p .row) (preambleBytes p)
 
--- 2: an `Unknown` with a byte of 0x80 or more
+-- the bytes of an `Unknown` have seven bits; 2: one of 0x80 or more
+abbrev pub isSevenBits : ℕ → Bool
+isSevenBits b = ltb b 0x80
+
 abbrev pub ofSevenBits : {A : Type 0} → Bool → A → Outcome A
 ofSevenBits small x = cond small (answer x) (refused 2)
 
@@ -63,7 +65,7 @@ controlBytes (control.Symbol s) = answer (symbolBytes s)
 controlBytes (control.Command c) = answer (pair 0x14 (0x20 + commandNumber c))
 controlBytes (control.Tab t) = answer (pair 0x17 (0x20 + tabNumber t))
 controlBytes (control.Preamble p) = rowBytes p
-controlBytes (control.Unknown a b) = ofSevenBits (ltb a 0x80 && ltb b 0x80) (pair a b)
+controlBytes (control.Unknown a b) = ofSevenBits (isSevenBits a && isSevenBits b) (pair a b)
 
 -- field two turns 14 before 20 to 2F into 15
 abbrev pub isFieldTwo : CodeField → Bool
@@ -71,7 +73,7 @@ isFieldTwo (Of f) = not (f .0)
 isFieldTwo Absent = false
 
 abbrev pub withField : CodeField → Pair → ℕ
-withField f p = cond (isFieldTwo f && eqb (p .0) 0x14 && within 0x20 0x2F (p .1)) 0x15 (p .0)
+withField f p = cond (isFieldTwo f && eqb (p .0) 0x14 && namesField (p .1)) 0x15 (p .0)
 
 -- channel two sets bit 0x08
 abbrev pub withBit8 : ℕ → ℕ
@@ -89,14 +91,17 @@ asCommand f c (answer p) = answer (onLine f c p, 2)
 asCommand f c (refused n) = refused n
 
 -- a single code comes first, with NUL after it, and has length 1
+abbrev pub singleWritten : ℕ → Pair × ℕ
+singleWritten b = (pair (withParity b) 0x80, 1)
+
 abbrev pub asSingle : ℕ → Outcome (Pair × ℕ)
-asSingle b = answer (pair (withParity b) 0x80, 1)
+asSingle b = answer (singleWritten b)
 
 unfoldable pub writeCode : Code → Outcome (Pair × ℕ)
 writeCode code.Nul = asSingle 0
 writeCode (code.Control c) = asCommand (c .field) (c .channel) (controlBytes (c .control))
 writeCode (code.Letter l) = asSingle (0x20 + letterPlace l)
-writeCode (code.Unknown b) = cond (ltb b 0x80) (asSingle b) (refused 2)
+writeCode (code.Unknown b) = ofSevenBits (isSevenBits b) (singleWritten b)
 
 abbrev pub writtenOutcome : Written → Outcome (Pair × ℕ)
 writtenOutcome (Made p n) = answer (p, n)
@@ -110,13 +115,13 @@ controlInDomain (control.Symbol s) = answer tt
 controlInDomain (control.Command c) = answer tt
 controlInDomain (control.Tab t) = answer tt
 controlInDomain (control.Preamble p) = inRow (p .row) tt
-controlInDomain (control.Unknown a b) = ofSevenBits (ltb a 0x80 && ltb b 0x80) tt
+controlInDomain (control.Unknown a b) = ofSevenBits (isSevenBits a && isSevenBits b) tt
 
 unfoldable pub inDomain : Code → Outcome Unit
 inDomain code.Nul = answer tt
 inDomain (code.Control c) = controlInDomain (c .control)
 inDomain (code.Letter l) = answer tt
-inDomain (code.Unknown b) = ofSevenBits (ltb b 0x80) tt
+inDomain (code.Unknown b) = ofSevenBits (isSevenBits b) tt
 
 abbrev pub domainOutcome : Domain → Outcome Unit
 domainOutcome domain.Inside = answer tt

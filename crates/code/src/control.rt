@@ -2,8 +2,7 @@
 ghost use mathlib.Core.Path.{_≡_};
 ghost use Prim.Native.Nat.{_<_};
 ghost use Rattle.code.specs.Control.{commandAt, commandNumber, tabNumber, tabOffset, tabOffsetOutcome};
-ghost use Rattle.code.specs.Control.{controlCode, channelIn, fieldIn, controlIn};
-ghost use Rattle.code.specs.Range.{within};
+ghost use Rattle.code.specs.Control.{namesField, controlCode, channelIn, fieldIn, controlIn};
 use crate::channel::Channel;
 use crate::channel::Field;
 use crate::midrow::MidRow;
@@ -83,7 +82,7 @@ pub struct ControlCode {
 
 // Whether a second byte is one of 20 to 2F, before which 14 and 15 name a field.
 pub(crate) fn names_field(second: u8) -> bool
-    ensures { λ r. ⌜ r ≡ within 0x20 0x2F second ⌝ }
+    ensures { λ r. ⌜ r ≡ namesField second ⌝ }
 {
     second / 16 == 2
 }

@@ -6,12 +6,10 @@ use mathlib.Core.Logic.{_↔_}
 use mathlib.Core.Path.{_≡_, refl, ap, sym, _∙_}
 use Prim.Native.Nat.{ℕ, _≤_}
 use native.Mathlib.Omega.{arith}
-use borrow.Author.Tests.{leb-true}
-use lib.Dec.{leb}
 use lib.IntN.{ℤ, pos, negsuc}
 use Rattle.code.proofs.Agree.{agree-from}
-use Rattle.code.proofs.Both.{both-true}
 use Rattle.code.proofs.OneAnswer.{clash, same}
+use Rattle.code.proofs.Ranges.{bounds}
 use Rattle.code.specs.Outcome.{answer, refused}
 use Rattle.code.specs.Range.{within}
 use Rattle.code.specs.declared.channel.Channel.{Channel}
@@ -52,8 +50,8 @@ its-number n from to = agree-from (λ (x : ℕ). valueOf (serviceOf x)) (λ (x :
 
 value-by : (n : ℕ) (i : Id) (t : Bool) → within 1 4 n ≡ t → cond t (answer (serviceOf n)) (refused 6) ≡ answer i → n ≡ valueOf i
 value-by n i true inside e =
-    let range = both-true (leb 1 n) (leb n 4) inside in
-    sym (its-number n (leb-true 1 n (range .0)) (leb-true n 4 (range .1))) ∙ ap valueOf (same e)
+    let range = bounds 1 4 n inside in
+    sym (its-number n (range .0) (range .1)) ∙ ap valueOf (same e)
 value-by n i false outside e = absurd (clash (sym e))
 
 number-of : (z : ℤ) (i : Id) → fromValue z ≡ answer i → z ≡ pos (valueOf i)

@@ -10,7 +10,7 @@ use borrow.Author.Tests.{le-leb, leb-false, leb-true, lt-leb, lt-ltb, ltb-true}
 use lib.Dec.{eqb, leb, ltb}
 use Rattle.code.proofs.Agree.{agree, agree-from, agree-grid}
 use Rattle.code.proofs.Both.{both-left, both-right}
-use Rattle.code.proofs.KindByKind.{control-domain, control-written, letter-domain, letter-written, nul-domain, unknown-domain, unknown-written}
+use Rattle.code.proofs.KindByKind.{control-domain, bytes-written, letter-domain, letter-written, nul-domain, unknown-domain, unknown-written}
 use Rattle.code.proofs.MeantBack.{command-meant, command-pair, isPairOfControl, mid-row-meant, mid-row-pair, preamble-meant, preamble-pair, symbol-meant, symbol-pair, tab-meant, tab-pair}
 use Rattle.code.proofs.Numbers.{letter-again, letter-small}
 use Rattle.code.specs.Channel.{channelOne, channelTwo, fieldOne, fieldTwo}
@@ -145,7 +145,7 @@ pub command-of-number : (n : ℕ) → n < 0x8000 → pairOf (codeOf n) ≡ onLin
 unfolding pairOf
 command-of-number n below =
     ap (λ (c : Code). pairWritten (writeCode c)) (as-command n below)
-    ∙ ap pairWritten (control-written (commandOfNumber n) (pair (firstIn n) (secondIn n)) (bytes-told n))
+    ∙ ap pairWritten (bytes-written (commandOfNumber n) (pair (firstIn n) (secondIn n)) (bytes-told n))
 
 letter-byte : (b : ℕ) → 32 ≤ b → b < 128 → 0x20 + letterPlace (letterAt (b - 0x20)) ≡ b
 letter-byte b from below = agree-from (λ (x : ℕ). 0x20 + letterPlace (letterAt (x - 0x20))) (λ (x : ℕ). x) 32 96 refl b from below

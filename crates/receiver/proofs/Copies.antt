@@ -7,8 +7,8 @@ use mathlib.Core.List.{List, [], _∷_}
 use mathlib.Core.Option.{Option, none}
 use mathlib.Core.Path.{_≡_, refl, ap, ap₂, _∙_}
 use Prim.Native.Nat.{ℕ, zero, suc}
-use borrow.Author.Tests.{eq-eqb}
 use lib.ListN.{replicate}
+use Rattle.code.proofs.SamePair.{same-itself}
 use Rattle.code.specs.Outcome.{Outcome, answer}
 use Rattle.code.specs.declared.control.CodeField.{CodeField}
 use Rattle.code.specs.declared.control.CodeField.the-variants as field
@@ -29,7 +29,7 @@ inTurn zero a b = []
 inTurn (suc n) a b = a ∷ inTurn n b a
 
 pub last-is-last : (p : Pair) → isLast p (last.Was p) ≡ true
-last-is-last p = rw (eq-eqb (p .0) (p .0) refl, eq-eqb (p .1) (p .1) refl)
+last-is-last p = same-itself p
 
 -- a command that acts again sets no other field
 pub field-again : (f : CodeField) (before : LastField) → fieldAfter f (fieldAfter f before) ≡ fieldAfter f before

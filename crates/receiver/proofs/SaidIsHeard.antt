@@ -9,7 +9,7 @@ use native.Mathlib.Omega.{arith}
 use borrow.Author.Tests.{leb-true}
 use lib.Dec.{leb}
 use Rattle.code.proofs.Agree.{agree-from}
-use Rattle.code.proofs.Both.{both-true}
+use Rattle.code.proofs.Ranges.{bounds}
 use Rattle.code.proofs.ReadBack.{command-reads-back, mid-row-reads-back, preamble-reads-back, tab-reads-back}
 use Rattle.code.specs.Control.{controlCode, tabNumber, tabOf}
 use Rattle.code.specs.Outcome.{answer, refused}
@@ -27,15 +27,16 @@ use Rattle.code.specs.declared.control.Command.the-variants as command
 use Rattle.code.specs.declared.control.Control.{Control}
 use Rattle.code.specs.declared.control.Control.the-variants as control
 use Rattle.code.specs.declared.preamble.PreambleAddressCode.{PreambleAddressCode}
+use Rattle.event.proofs.Back.{mode-back}
 use Rattle.event.specs.Event.{channelOfEvent}
 use Rattle.event.specs.IntoCode.{alone, codes, codesOf, no-first, no-second, orRefusal, refusal, Turned}
-use Rattle.event.specs.Mode.{commandOf, modeOf}
+use Rattle.event.specs.Mode.{commandOf}
 use Rattle.event.specs.declared.event.Cea608.{Cea608}
 use Rattle.event.specs.declared.event.Cea608.the-variants as event
 use Rattle.event.specs.declared.mode.Mode.{Mode}
 use Rattle.event.specs.declared.mode.Mode.the-variants.{PopOn, PaintOn, RollUp2, RollUp3, RollUp4}
 use Rattle.receiver.proofs.Step.{command-acts}
-use Rattle.receiver.specs.Heard.{controlEvent, eventOf}
+use Rattle.receiver.specs.Heard.{controlEvent, eventOf, newMode}
 use Rattle.receiver.specs.Receiver.{Stepped, fieldAfter, lastField, state}
 use Rattle.receiver.specs.SaidIsHeard.{Reported, SaidIsHeardLaw, fieldNamed}
 use Rattle.receiver.specs.declared.state.LastChannel.the-variants as channel
@@ -86,8 +87,8 @@ tab-again n from to = agree-from (λ (k : ℕ). tabNumber (tabOf k)) (λ (k : �
 
 tab-by : (f : Field) (ch : Channel) (n : ℕ) (x y : Code) (t : Bool) → within 1 3 n ≡ t → orRefusal f ch (cond t (answer (control.Tab (tabOf n))) (refused 4)) ≡ codes x y → Reported x y f (event.TabOffset ch n)
 tab-by f ch n x y true inside told =
-    let range = both-true (leb 1 n) (leb n 3) inside in
-    let same-count = tab-again n (leb-true 1 n (range .0)) (leb-true n 3 (range .1)) in
+    let range = bounds 1 3 n inside in
+    let same-count = tab-again n (range .0) (range .1) in
     alone-reported f ch (control.Tab (tabOf n)) (event.TabOffset ch n) x y (tab-reads-back (field.Of f) ch (tabOf n))
     (ap (λ (k : ℕ). some (event.TabOffset ch k)) same-count) refl refl told
 tab-by f ch n x y false outside told = let z : _≡_ {A = ℕ} 0 1 = cc in absurd (omega arith)
@@ -104,12 +105,11 @@ command-reported f ch c e x y is on named told =
     alone-reported f ch (control.Command c) e x y (command-reads-back (field.Of f) ch c) is on named told
 
 mode-reported : (ch : Channel) (m : Mode) → controlEvent ch (control.Command (commandOf m)) ≡ some (event.NewMode ch m)
-unfolding modeOf
-mode-reported ch PopOn = refl
-mode-reported ch PaintOn = refl
-mode-reported ch RollUp2 = refl
-mode-reported ch RollUp3 = refl
-mode-reported ch RollUp4 = refl
+mode-reported ch PopOn = ap (newMode ch) (mode-back PopOn)
+mode-reported ch PaintOn = ap (newMode ch) (mode-back PaintOn)
+mode-reported ch RollUp2 = ap (newMode ch) (mode-back RollUp2)
+mode-reported ch RollUp3 = ap (newMode ch) (mode-back RollUp3)
+mode-reported ch RollUp4 = ap (newMode ch) (mode-back RollUp4)
 
 pub said-is-heard : SaidIsHeardLaw
 unfolding codesOf
