@@ -12,7 +12,7 @@ use Rattle.code.proofs.Both.{both-left, both-right}
 use Rattle.code.proofs.Numbers.{letter-small}
 use Rattle.code.proofs.Ranges.{command-range}
 use Rattle.code.proofs.Written.{data-kept}
-use Rattle.code.specs.Control.{commandNumber, namesField, tabNumber}
+use Rattle.code.specs.Control.{namesField}
 use Rattle.code.specs.Letter.{letterPlace}
 use Rattle.code.specs.Outcome.{Outcome, answer, refused}
 use Rattle.code.specs.Pair.{pair}
@@ -20,7 +20,7 @@ use Rattle.code.specs.Parity.{stripped, withParity}
 use Rattle.code.specs.Read.{isCommand}
 use Rattle.code.specs.Preamble.{rowPrefix}
 use Rattle.code.specs.Symbol.{symbolBase}
-use Rattle.code.specs.Write.{asCommand, asSingle, controlBytes, isCommandCode, isCommandControl, isFieldTwo, isSevenBits, midRowBytes, onLine, preambleBytes, symbolBytes, withBit8, withChannel, withField, writeCode}
+use Rattle.code.specs.Write.{asCommand, asSingle, commandBytes, controlBytes, isCommandCode, isCommandControl, isFieldTwo, isSevenBits, midRowBytes, onLine, preambleBytes, symbolBytes, tabBytes, withBit8, withChannel, withField, writeCode}
 use Rattle.code.specs.declared.channel.Channel.{Channel}
 use Rattle.code.specs.declared.code.Code.{Code}
 use Rattle.code.specs.declared.code.Code.the-variants as code
@@ -97,8 +97,8 @@ control-says : (f : CodeField) (ch : Channel) (c : Control) → Says (isCommandC
 unfolding controlBytes
 control-says f ch (control.MidRow m) = goes-out f ch (midRowBytes m) refl
 control-says f ch (control.Symbol s) = goes-out f ch (symbolBytes s) (symbol-says s)
-control-says f ch (control.Command c) = goes-out f ch (pair 0x14 (0x20 + commandNumber c)) refl
-control-says f ch (control.Tab t) = goes-out f ch (pair 0x17 (0x20 + tabNumber t)) refl
+control-says f ch (control.Command c) = goes-out f ch (commandBytes c) refl
+control-says f ch (control.Tab t) = goes-out f ch (tabBytes t) refl
 control-says f ch (control.Preamble p) = preamble-goes-out f ch p (leb (p .row) 14) refl
 control-says f ch (control.Unknown a b) = unknown-goes-out f ch a b (isSevenBits a && isSevenBits b) refl
 

@@ -9,13 +9,13 @@ use Rattle.code.proofs.Agree.{agree, agree-grid}
 use Rattle.code.proofs.Numbers.{column-back, command-back, kind-small, style-back, symbol-row-back}
 use Rattle.code.specs.Color.{colorNumber}
 use Rattle.code.specs.Column.{columnAt, columnNumber}
-use Rattle.code.specs.Control.{commandAt, commandNumber, tabNumber}
+use Rattle.code.specs.Control.{commandAt, commandNumber}
 use Rattle.code.specs.MidRow.{kindNumber, midRowAt, midRowNumber}
 use Rattle.code.specs.Pair.{pair, plus}
 use Rattle.code.specs.Preamble.{rowPrefix, styleAt, styleOf}
 use Rattle.code.specs.Read.{isCommand, meaning}
 use Rattle.code.specs.Symbol.{symbolBase, symbolRowAt, symbolRowNumber}
-use Rattle.code.specs.Write.{bit, isSevenBits, midRowBytes, preambleBytes, symbolBytes}
+use Rattle.code.specs.Write.{bit, commandBytes, isSevenBits, midRowBytes, preambleBytes, symbolBytes, tabBytes}
 use Rattle.code.specs.declared.color.Color as color
 use Rattle.code.specs.declared.color.Color.the-variants.{White, Green, Blue, Cyan, Red, Yellow, Magenta}
 use Rattle.code.specs.declared.column.Column.{Column}
@@ -103,21 +103,21 @@ symbol-pair s =
     rw (symbol-row-back (s .row) .1) at known
 
 -- commands and tabs
-pub command-meant : (c : Command) → meaning 0x14 (0x20 + commandNumber c) ≡ some (control.Command c)
+pub command-meant : (c : Command) → meant (commandBytes c) ≡ some (control.Command c)
 unfolding meaning
 command-meant c =
     agree (λ (x : ℕ). meaning 0x14 (0x20 + x)) (λ (x : ℕ). some (control.Command (commandAt x))) 16 refl (commandNumber c) (command-back c .0)
     ∙ ap (λ (x : Command). some (control.Command x)) (command-back c .1)
 
-pub command-pair : (c : Command) → isPairOfControl (pair 0x14 (0x20 + commandNumber c)) ≡ true
+pub command-pair : (c : Command) → isPairOfControl (commandBytes c) ≡ true
 command-pair c = agree (λ (x : ℕ). isPairOfControl (pair 0x14 (0x20 + x))) (λ (x : ℕ). true) 16 refl (commandNumber c) (command-back c .0)
 
-pub tab-pair : (t : Tab) → isPairOfControl (pair 0x17 (0x20 + tabNumber t)) ≡ true
+pub tab-pair : (t : Tab) → isPairOfControl (tabBytes t) ≡ true
 tab-pair tab.TabOffset1 = refl
 tab-pair tab.TabOffset2 = refl
 tab-pair tab.TabOffset3 = refl
 
-pub tab-meant : (t : Tab) → meaning 0x17 (0x20 + tabNumber t) ≡ some (control.Tab t)
+pub tab-meant : (t : Tab) → meant (tabBytes t) ≡ some (control.Tab t)
 unfolding meaning
 tab-meant tab.TabOffset1 = refl
 tab-meant tab.TabOffset2 = refl

@@ -17,14 +17,14 @@ use Rattle.code.proofs.Numbers.{letter-again, letter-small}
 use Rattle.code.proofs.Ranges.{command-range, still-between}
 use Rattle.code.proofs.Written.{data-kept, read-as-command, read-as-text, with-parity}
 use Rattle.code.specs.Channel.{channelOne, channelTwo, fieldOne, fieldTwo}
-use Rattle.code.specs.Control.{commandNumber, namesField, tabNumber}
+use Rattle.code.specs.Control.{namesField}
 use Rattle.code.specs.Letter.{letterAt, letterPlace}
 use Rattle.code.specs.Outcome.{Outcome, answer}
 use Rattle.code.specs.Pair.{pair}
 use Rattle.code.specs.Parity.{stripped, withParity}
 use Rattle.code.specs.Read.{channelOf, controlCodeOf, fieldOf, isCommand, isCommandPair, meaning, orUnknown, readPair, single, withoutChannel, withoutField}
 use Rattle.code.specs.ReadBack.{ReadsBack, TextReadsBack, fieldRead, isPlain}
-use Rattle.code.specs.Write.{asSingle, controlBytes, isFieldTwo, isSevenBits, midRowBytes, onLine, preambleBytes, symbolBytes, together, withChannel, withField, writeCode}
+use Rattle.code.specs.Write.{asSingle, commandBytes, controlBytes, isFieldTwo, isSevenBits, midRowBytes, onLine, preambleBytes, symbolBytes, tabBytes, together, withChannel, withField, writeCode}
 use Rattle.code.specs.declared.channel.Channel.{Channel}
 use Rattle.code.specs.declared.code.Code.{Code}
 use Rattle.code.specs.declared.code.Code.the-variants as code
@@ -197,11 +197,11 @@ symbol-reads-back f ch s = by-bytes f ch (control.Symbol s) (symbolBytes s) refl
 pub command-reads-back : (f : CodeField) (ch : Channel) (c : Command) → ReadsBack f ch (control.Command c)
 unfolding controlBytes
 command-reads-back f ch c =
-    by-bytes f ch (control.Command c) (pair 0x14 (0x20 + commandNumber c)) refl (command-pair c) (command-meant c)
+    by-bytes f ch (control.Command c) (commandBytes c) refl (command-pair c) (command-meant c)
 
 pub tab-reads-back : (f : CodeField) (ch : Channel) (t : Tab) → ReadsBack f ch (control.Tab t)
 unfolding controlBytes
-tab-reads-back f ch t = by-bytes f ch (control.Tab t) (pair 0x17 (0x20 + tabNumber t)) refl (tab-pair t) (tab-meant t)
+tab-reads-back f ch t = by-bytes f ch (control.Tab t) (tabBytes t) refl (tab-pair t) (tab-meant t)
 
 pub preamble-reads-back : (f : CodeField) (ch : Channel) (p : PreambleAddressCode) → p .row < 15 → ReadsBack f ch (control.Preamble p)
 unfolding controlBytes

@@ -18,8 +18,10 @@ use Rattle.code.specs.declared.code.Code.{Code}
 use Rattle.code.specs.declared.code.Code.the-variants as code
 use Rattle.code.specs.declared.control.CodeField.{CodeField}
 use Rattle.code.specs.declared.control.CodeField.the-variants.{Of, Absent}
+use Rattle.code.specs.declared.control.Command.{Command}
 use Rattle.code.specs.declared.control.Control.{Control}
 use Rattle.code.specs.declared.control.Control.the-variants as control
+use Rattle.code.specs.declared.control.Tab.{Tab}
 use Rattle.code.specs.declared.midrow.MidRow.{MidRow}
 use Rattle.code.specs.declared.pair.Pair.{Pair}
 use Rattle.code.specs.declared.preamble.PreambleAddressCode.{PreambleAddressCode}
@@ -44,6 +46,13 @@ midRowBytes m = pair 0x11 (0x20 + 2 * midRowNumber m + bit (m .underline))
 abbrev pub symbolBytes : Symbol → Pair
 symbolBytes s = plus (symbolBase (s .row)) (columnNumber (s .column))
 
+-- from 14 20 on, and from 17 21 on
+abbrev pub commandBytes : Command → Pair
+commandBytes c = pair 0x14 (0x20 + commandNumber c)
+
+abbrev pub tabBytes : Tab → Pair
+tabBytes t = pair 0x17 (0x20 + tabNumber t)
+
 abbrev pub preambleBytes : PreambleAddressCode → Pair
 preambleBytes p = plus (rowPrefix (p .row)) (2 * styleOf (p .ty) + bit (p .underline))
 
@@ -62,8 +71,8 @@ ofSevenBits small x = cond small (answer x) (refused 2)
 unfoldable pub controlBytes : Control → Outcome Pair
 controlBytes (control.MidRow m) = answer (midRowBytes m)
 controlBytes (control.Symbol s) = answer (symbolBytes s)
-controlBytes (control.Command c) = answer (pair 0x14 (0x20 + commandNumber c))
-controlBytes (control.Tab t) = answer (pair 0x17 (0x20 + tabNumber t))
+controlBytes (control.Command c) = answer (commandBytes c)
+controlBytes (control.Tab t) = answer (tabBytes t)
 controlBytes (control.Preamble p) = rowBytes p
 controlBytes (control.Unknown a b) = ofSevenBits (isSevenBits a && isSevenBits b) (pair a b)
 

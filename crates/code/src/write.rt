@@ -4,13 +4,15 @@ ghost use Prim.Native.Nat.{_<_};
 ghost use Rattle.code.specs.Write.{writeCode, writtenOutcome, asCommand, onLine, withField, withChannel};
 ghost use Rattle.code.specs.Write.{inDomain, controlInDomain, domainOutcome};
 ghost use Rattle.code.specs.Symbol.{symbolBase};
-ghost use Rattle.code.specs.Write.{controlBytes, bytesOutcome, midRowBytes, symbolBytes, preambleBytes};
+ghost use Rattle.code.specs.Write.{controlBytes, bytesOutcome, midRowBytes, symbolBytes, commandBytes, tabBytes, preambleBytes};
 ghost use Rattle.code.specs.Write.{rowBytes, rowBytesOutcome};
 use crate::channel::Channel;
 use crate::code::Code;
 use crate::control::CodeField;
+use crate::control::Command;
 use crate::control::Control;
 use crate::control::ControlCode;
+use crate::control::Tab;
 use crate::control::names_field;
 use crate::midrow::MidRow;
 use crate::pair::Pair;
@@ -188,8 +190,8 @@ impl Control {
         match self {
             Control::MidRow(code) => Bytes::Are(code.bytes()),
             Control::Symbol(symbol) => Bytes::Are(symbol.bytes()),
-            Control::Command(command) => Bytes::Are(Pair(0x14, 0x20 + command.number())),
-            Control::Tab(tab) => Bytes::Are(Pair(0x17, 0x20 + tab.number())),
+            Control::Command(command) => Bytes::Are(command.bytes()),
+            Control::Tab(tab) => Bytes::Are(tab.bytes()),
             Control::Preamble(preamble) => {
                 let row = preamble.row;
                 if row < 15 {
@@ -249,6 +251,24 @@ impl Symbol {
         let column = self.column;
         let base = row.base();
         Pair(base.0, base.1 + column.number())
+    }
+}
+
+impl Command {
+    // 14, then 20 and on, in the order of the commands.
+    pub fn bytes(self) -> Pair
+        ensures { λ r. ⌜ r ≡ commandBytes self ⌝ }
+    {
+        Pair(0x14, 0x20 + self.number())
+    }
+}
+
+impl Tab {
+    // 17, then 21, 22 or 23: 20 and the columns.
+    pub fn bytes(self) -> Pair
+        ensures { λ r. ⌜ r ≡ tabBytes self ⌝ }
+    {
+        Pair(0x17, 0x20 + self.number())
     }
 }
 

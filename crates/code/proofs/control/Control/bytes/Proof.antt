@@ -1,11 +1,9 @@
--- `code::control::Control::bytes` meets its contract, by the kind of the control; each number leaves room in the second byte.
+-- `code::control::Control::bytes` meets its contract, by the kind of the control.
 -- Assumes nothing.
 use borrow.Author.Needs.{needs}
 use borrow.Author.Tests.{le-leb, lt-leb, le-ltb, lt-ltb}
 use mathlib.Core.Path.{ap}
 use native.Mathlib.Nat.{le-of-suc-le-suc}
-use native.Mathlib.Omega.{arith}
-use Rattle.code.proofs.Numbers.{command-back, tab-back}
 use Rattle.code.specs.Outcome.{answer}
 use Rattle.code.proofs.control.Control.bytes.Statement.{statement}
 use Rattle.code.specs.Write.{controlBytes}
@@ -26,20 +24,14 @@ bytes-requires-2 c κs = search needs
 enum-known-self-3 : tie.Need-enum-known-self-3
 enum-known-self-3 c = search needs
 
-number-requires : tie.Need-number-requires
-number-requires c κs = search needs
-
-add-t14 : tie.Need-add-t14
-add-t14 c = omega (arith, command-back (c .before .before .self3 .given .0 .0) .0)
+bytes-requires-3 : tie.Need-bytes-requires-3
+bytes-requires-3 c κs = search needs
 
 enum-known-self-4 : tie.Need-enum-known-self-4
 enum-known-self-4 c = search needs
 
-number-requires-2 : tie.Need-number-requires-2
-number-requires-2 c κs = search needs
-
-add-t17 : tie.Need-add-t17
-add-t17 c = omega (arith, tab-back (c .before .before .self4 .given .0 .0) .0)
+bytes-requires-4 : tie.Need-bytes-requires-4
+bytes-requires-4 c κs = search needs
 
 enum-known-self-5 : tie.Need-enum-known-self-5
 enum-known-self-5 c = search needs
@@ -68,11 +60,11 @@ returns-4 c = rw (c .before .before .self2 .given .1) (ap answer (c .bytes2 .ens
 
 returns-5 : tie.Need-returns-5
 unfolding controlBytes
-returns-5 c = rw (c .before .before .self3 .given .1, c .number .ensures)
+returns-5 c = rw (c .before .before .self3 .given .1) (ap answer (c .bytes3 .ensures))
 
 returns-6 : tie.Need-returns-6
 unfolding controlBytes
-returns-6 c = rw (c .before .before .self4 .given .1, c .number2 .ensures)
+returns-6 c = rw (c .before .before .self4 .given .1) (ap answer (c .bytes4 .ensures))
 
 returns-7 : tie.Need-returns-7
 unfolding controlBytes
@@ -95,11 +87,9 @@ bytes-spec =
     enum-known-self-2
     bytes-requires-2
     enum-known-self-3
-    number-requires
-    add-t14
+    bytes-requires-3
     enum-known-self-4
-    number-requires-2
-    add-t17
+    bytes-requires-4
     enum-known-self-5
     bytes-in-row-requires
     enum-known-self-6
