@@ -1,6 +1,7 @@
 pub mod Agree
 pub mod Both
 pub mod BothWays
+pub mod ByBytes
 pub mod Bytes
 pub mod CommandCodes
 pub mod First

@@ -149,20 +149,24 @@ plain false false b c e = let z : _≡_ {A = ℕ} 0 1 = cc in omega arith
 pub single-is-no-command : (b : ℕ) (c : ControlCode) → single b ≡ code.Control c → ⊥
 single-is-no-command b c e = plain (eqb b 0) (leb 0x20 b) b c e
 
--- so what is read as a command has a first byte of 10 to 1F
+-- so what is read as a command has a first byte of 10 to 1F, and is the control code of its two bytes
 first-of : (t : Bool) (a b : ℕ) → Code × Code
 first-of t a b = cond t (code.Control (controlCodeOf a b), code.Nul) (single a, single b)
 
-command-first : (t : Bool) (a b : ℕ) (c : ControlCode) → first-of t a b .0 ≡ code.Control c → t ≡ true
+command-first : (t : Bool) (a b : ℕ) (c : ControlCode) → first-of t a b .0 ≡ code.Control c → (t ≡ true) × (controlCodeOf a b ≡ c)
 unfolding first-of
-command-first true a b c e = refl
+command-first true a b c e = (refl, cc)
 command-first false a b c e = absurd (single-is-no-command a c e)
 
-read-passed : (t : Bool) (a b : ℕ) (c : ControlCode) (y : Code) → cond t (answer (codesOfBytes a b)) (refused 1) ≡ answer (code.Control c, y) → isCommand a ≡ true
+read-passed : (t : Bool) (a b : ℕ) (c : ControlCode) (y : Code) → cond t (answer (codesOfBytes a b)) (refused 1) ≡ answer (code.Control c, y) → (isCommand a ≡ true) × (controlCodeOf a b ≡ c)
 unfolding first-of
 read-passed true a b c y e = command-first (isCommand a) a b c (ap (λ (w : Code × Code). w .0) (same e))
 read-passed false a b c y e = absurd (clash (sym e))
 
 pub command-by-first-byte : (a b : ℕ) (c : ControlCode) (y : Code) → readPair a b ≡ answer (code.Control c, y) → isCommand (stripped a) ≡ true
 unfolding readPair
-command-by-first-byte a b c y e = read-passed (isOddPair (pair a b)) (stripped a) (stripped b) c y e
+command-by-first-byte a b c y e = read-passed (isOddPair (pair a b)) (stripped a) (stripped b) c y e .0
+
+pub command-of-its-bytes : (a b : ℕ) (c : ControlCode) (y : Code) → readPair a b ≡ answer (code.Control c, y) → controlCodeOf (stripped a) (stripped b) ≡ c
+unfolding readPair
+command-of-its-bytes a b c y e = read-passed (isOddPair (pair a b)) (stripped a) (stripped b) c y e .1

@@ -19,3 +19,4 @@ pub mod Code
 pub mod ReadBack
 pub mod RoundTrip
 pub mod KnownCodes
+pub mod ByBytes
