@@ -1,5 +1,5 @@
--- The standard characters against ASCII, the indents by their indentColumns, channels and fields by their numbers, and the
--- refusal of each call by its number in 01.
+-- The standard characters against ASCII, the symbols by their code points, the indents by their columns, channels and fields
+-- by their numbers, and the refusal of each call by its number in 01.
 -- Assumes nothing.
 use mathlib.Core.Bool.{false, cond}
 use mathlib.Core.List.{map}
@@ -13,10 +13,10 @@ use Rattle.code.specs.Channel.{channelId, channelOne, channelTwo, fieldI
 use Rattle.code.specs.Characters.{standard, symbols}
 use Rattle.code.specs.Code.{charOf, fromChar}
 use Rattle.code.specs.Control.{tabOffset}
-use Rattle.code.specs.KnownCodes.{Instead, indentColumns, indents, isNotAscii, notAscii}
+use Rattle.code.specs.KnownCodes.{Instead, Sixteen, charactersFrom, indentColumns, indents, isNotAscii, knownSymbols, notAscii}
 use Rattle.code.specs.Outcome.{answer, refused}
 use Rattle.code.specs.Preamble.{fromIndent, indentIn, newPreamble}
-use Rattle.code.specs.Read.{readPair, single}
+use Rattle.code.specs.Read.{controlCodeOf, meaning, readPair, single}
 use Rattle.code.specs.Write.{inDomain, writeCode}
 use Rattle.code.specs.declared.character.Character.the-variants.{Point, Absent}
 use Rattle.code.specs.declared.code.Code.the-variants as code
@@ -35,6 +35,11 @@ ascii-elsewhere b from below other =
 pub instead-of-ascii : map (λ (x : Instead). charOf (single (x .byte))) notAscii ≡ map (λ (x : Instead). Point (x .point)) notAscii
 unfolding standard charOf
 instead-of-ascii = refl
+
+-- the 80 symbols
+pub symbols-by-bytes : map (λ (r : Sixteen). charactersFrom (r .first) 16) knownSymbols ≡ map (λ (r : Sixteen). r .characters) knownSymbols
+unfolding symbols charOf meaning controlCodeOf
+symbols-by-bytes = refl
 
 pub indents-by-column : (map fromIndent indentColumns ≡ map answer indents) × (map indentIn indents ≡ map some indentColumns)
 indents-by-column = (refl, refl)
