@@ -14,6 +14,7 @@ pub mod LentPart
 pub mod Lookup
 pub mod Meaning
 pub mod MeantBack
+pub mod NamedCodes
 pub mod Numbers
 pub mod OneAnswer
 pub mod Ranges

@@ -1,7 +1,7 @@
--- What is known of codes by their bytes and numbers, beside the pairs that `KnownPairs` of `event` has. It holds the
--- definitions to the texts: the standard characters to ASCII, and at eleven bytes to 01; the symbols to the code points that
--- the crate decides; the indents to 47 CFR 79.101 (h). proofs/KnownCodes.antt holds the definitions against these, and the
--- refusal numbers against 01's.
+-- What is known of codes by their bytes and numbers, beside the names in `NamedCodes` and the pairs that `KnownPairs` of
+-- `event` has. It holds the definitions to the texts: the standard characters to ASCII, and at eleven bytes to 01; the symbols
+-- to the code points that the crate decides; the indents to 47 CFR 79.101 (h). proofs/KnownCodes.antt holds the definitions
+-- against these, and the refusal numbers against 01's.
 use Prim.Native.Nat.{ℕ, zero, suc}
 use mathlib.Core.Bool.{Bool, false, _||_}
 use mathlib.Core.List.{List, [], _∷_, _++_, map}

@@ -19,4 +19,5 @@ pub mod Code
 pub mod ReadBack
 pub mod RoundTrip
 pub mod KnownCodes
+pub mod NamedCodes
 pub mod ByBytes
