@@ -1,27 +1,35 @@
--- The standard characters against ASCII, the symbols by their code points, the indents by their columns, channels and fields
--- by their numbers, and the refusal of each call by its number in 01.
+-- The standard characters against ASCII, the symbols by their code points, numbers in the order of the codes, the indents by
+-- their columns, channels and fields by their numbers, and the refusal of each call by its number in 01.
 -- Assumes nothing.
-use mathlib.Core.Bool.{false, cond}
-use mathlib.Core.List.{map}
+use mathlib.Core.Bool.{Bool, false, cond}
+use mathlib.Core.List.{List, [], _∷_, _++_, map}
 use mathlib.Core.Option.{some}
 use mathlib.Core.Path.{_≡_, refl, ap, sym, _∙_}
-use Prim.Native.Nat.{ℕ, _≤_, _<_}
+use Prim.Native.Nat.{ℕ, zero, suc, _≤_, _<_}
 use lib.Count.{ones, onesIn}
 use native.Mathlib.Omega.{arith}
+use borrow.Author.Tests.{lt-leb}
 use Rattle.code.proofs.Agree.{agree-from}
 use Rattle.code.specs.Channel.{channelId, channelOne, channelTwo, fieldId, fieldOne, fieldTwo}
 use Rattle.code.specs.Characters.{standard, symbols}
 use Rattle.code.specs.Code.{charOf, fromChar}
-use Rattle.code.specs.Control.{tabOffset}
+use Rattle.code.specs.Color.{colorNumber, colors}
+use Rattle.code.specs.Column.{columnNumber, columns}
+use Rattle.code.specs.Control.{commandNumber, commands, tabNumber, tabOffset}
 use Rattle.code.specs.KnownCodes.{Instead, Sixteen, charactersFrom, indentColumns, indents, isNotAscii, knownSymbols, notAscii}
-use Rattle.code.specs.Outcome.{answer, refused}
-use Rattle.code.specs.Preamble.{fromIndent, indentIn, newPreamble}
+use Rattle.code.specs.Letter.{letterRowNumber, letterRows}
+use Rattle.code.specs.MidRow.{colored, italic, midRowNumber}
+use Rattle.code.specs.Outcome.{refused}
+use Rattle.code.specs.Preamble.{fromIndent, indentIn, newPreamble, styleOf}
 use Rattle.code.specs.Read.{controlCodeOf, meaning, readPair, single}
+use Rattle.code.specs.Symbol.{symbolRowNumber, symbolRows}
 use Rattle.code.specs.Write.{inDomain, writeCode}
 use Rattle.code.specs.declared.character.Character.the-variants.{Point, Absent}
 use Rattle.code.specs.declared.code.Code.the-variants as code
-use Rattle.code.specs.declared.color.Color.the-variants.{White}
-use Rattle.code.specs.declared.preamble.PreambleType.the-variants.{Color}
+use Rattle.code.specs.declared.color.Color as color
+use Rattle.code.specs.declared.control.Tab.the-variants.{TabOffset1, TabOffset2, TabOffset3}
+use Rattle.code.specs.declared.preamble.PreambleType.{PreambleType}
+use Rattle.code.specs.declared.preamble.PreambleType.the-variants.{Color, WhiteItalics}
 
 -- at every other byte of 20 to 7F the character is the byte's own
 pub ascii-elsewhere : (b : ℕ) → 0x20 ≤ b → b < 0x80 → isNotAscii b ≡ false → charOf (single b) ≡ Point b
@@ -41,8 +49,24 @@ pub symbols-by-bytes : map (λ (r : Sixteen). charactersFrom (r .first) 16) know
 unfolding symbols charOf meaning controlCodeOf
 symbols-by-bytes = refl
 
-pub indents-by-column : (map fromIndent indentColumns ≡ map answer indents) × (map indentIn indents ≡ map some indentColumns)
-indents-by-column = (refl, refl)
+-- the numbers count from 0 in the order of the codes, and tabs from 1
+abbrev countFrom : ℕ → ℕ → List ℕ
+countFrom low zero = []
+countFrom low (suc n) = low ∷ countFrom (suc low) n
+
+pub numbers-in-order :
+    (map colorNumber colors ≡ countFrom 0 7) × (map columnNumber columns ≡ countFrom 0 16) × (map letterRowNumber letterRows ≡ countFrom 0 6)
+    × (map symbolRowNumber symbolRows ≡ countFrom 0 5) × (map commandNumber commands ≡ countFrom 0 16)
+    × (map tabNumber (TabOffset1 ∷ TabOffset2 ∷ TabOffset3 ∷ []) ≡ countFrom 1 3)
+numbers-in-order = (refl, refl, refl, refl, refl, refl)
+
+pub styles-in-order :
+    (map styleOf (map Color colors ++ (WhiteItalics ∷ indents)) ≡ countFrom 0 16)
+    × (map midRowNumber (map (λ (c : color.Color). colored c false) colors ++ (italic false ∷ [])) ≡ countFrom 0 8)
+styles-in-order = (refl, refl)
+
+pub indents-by-column : map indentIn indents ≡ map some indentColumns
+indents-by-column = refl
 
 pub channels-and-fields-by-number : (channelId channelOne ≡ 1) × (channelId channelTwo ≡ 2) × (fieldId fieldOne ≡ 1) × (fieldId fieldTwo ≡ 2)
 channels-and-fields-by-number = (refl, refl, refl, refl)
@@ -57,9 +81,9 @@ pub refused-2 : (writeCode (code.Unknown 0x80) ≡ refused 2) × (inDomain (code
 unfolding writeCode inDomain
 refused-2 = (refl, refl)
 
--- row 15
-pub refused-3 : newPreamble 15 false (Color White) ≡ refused 3
-refused-3 = refl
+-- a row above 14
+pub refused-3 : (row : ℕ) (u : Bool) (t : PreambleType) → 14 < row → newPreamble row u t ≡ refused 3
+refused-3 row u t above = rw (lt-leb row 14 above) refl
 
 -- a tab of no column, and one of four
 pub refused-4 : (tabOffset 0 ≡ refused 4) × (tabOffset 4 ≡ refused 4)

@@ -17,6 +17,7 @@ pub mod MeantBack
 pub mod NamedCodes
 pub mod Numbers
 pub mod OneAnswer
+pub mod Parts
 pub mod Ranges
 pub mod ReadBack
 pub mod RoundTrip
