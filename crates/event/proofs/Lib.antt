@@ -1,4 +1,5 @@
 pub mod OneAnswer
 pub mod Back
+pub mod IntoCode
 pub mod Services
 pub mod KnownPairs

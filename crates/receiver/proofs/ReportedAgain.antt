@@ -39,6 +39,7 @@ use Rattle.code.specs.declared.letter.Letter.{Letter}
 use Rattle.code.specs.declared.pair.Pair.{Pair}
 use Rattle.code.specs.declared.preamble.PreambleAddressCode.{PreambleAddressCode}
 use Rattle.code.specs.declared.symbol.Symbol.{Symbol}
+use Rattle.event.specs.Event.{isText}
 use Rattle.event.specs.IntoCode.{codes, codesOf, inOrder}
 use Rattle.event.specs.declared.event.Cea608.{Cea608}
 use Rattle.event.specs.declared.event.Cea608.the-variants as event
@@ -48,7 +49,7 @@ use Rattle.receiver.proofs.Step.{even-is-refused-1, step-command, text-
 use Rattle.receiver.proofs.TextIsHeard.{text-is-heard}
 use Rattle.receiver.specs.Heard.{controlEvent, eventOf, symbolText, textEvent, textOf}
 use Rattle.receiver.specs.Receiver.{Stepped, isLast, step, textFor}
-use Rattle.receiver.specs.SaidIsHeard.{Reported, ReportedAgainLaw, isText, only-a-first, only-a-second, two-letters}
+use Rattle.receiver.specs.SaidIsHeard.{Reported, ReportedAgainLaw, only-a-first, only-a-second, two-letters}
 use Rattle.receiver.specs.declared.state.Cea608State.{Cea608State}
 use Rattle.receiver.specs.declared.state.LastChannel.{LastChannel}
 use Rattle.event.specs.Mode.{modeOf}

@@ -3,7 +3,7 @@
 -- `TextIsHeardLaw` and `CharacterByCharacterLaw` of text, and `ReportedAgainLaw` of whatever a receiver has reported.
 -- proofs/ has a file for each: SaidIsHeard, TextIsHeard, ReportedAgain.
 use Prim.Native.Nat.{ℕ}
-use mathlib.Core.Bool.{Bool, true, false}
+use mathlib.Core.Bool.{true, false}
 use mathlib.Core.Option.{some}
 use mathlib.Core.Path.{_≡_}
 use Rattle.code.specs.Code.{needsBackspace}
@@ -20,7 +20,7 @@ use Rattle.code.specs.declared.control.CodeField.the-variants as field
 use Rattle.code.specs.declared.control.ControlCode.{ControlCode}
 use Rattle.code.specs.declared.letter.Letter.{Letter}
 use Rattle.code.specs.declared.pair.Pair.{Pair}
-use Rattle.event.specs.Event.{channelOfEvent}
+use Rattle.event.specs.Event.{channelOfEvent, isText}
 use Rattle.event.specs.IntoCode.{codes, codesOf}
 use Rattle.event.specs.declared.event.Cea608.{Cea608}
 use Rattle.event.specs.declared.event.Cea608.the-variants as event
@@ -58,19 +58,6 @@ pub record Reported (x y : Code) (f : Field) (e : Cea608) : Type 0 where
   pub written : writeTwo x y ≡ answer pair
   pub command-decoded : isCommandPair pair ≡ true → (s : Cea608State) → isLast pair (s .«last_data») ≡ false → step s pair ≡ reports s pair f e
   pub text-decoded : isCommandPair pair ≡ false → (s : Cea608State) → s .«last_channel» ≡ channel.Known (channelOfEvent e) → step s pair ≡ reports s pair f e
-
-abbrev pub isText : Cea608 → Bool
-isText (event.Text t) = true
-isText (event.NewMode ch m) = false
-isText (event.EraseDisplay ch) = false
-isText (event.EraseNonDisplay ch) = false
-isText (event.CarriageReturn ch) = false
-isText (event.Backspace ch) = false
-isText (event.EndOfCaption ch) = false
-isText (event.TabOffset ch n) = false
-isText (event.DeleteToEndOfRow ch) = false
-isText (event.Preamble ch p) = false
-isText (event.MidRowChange ch m) = false
 
 abbrev pub SaidIsHeardLaw : Type 0
 SaidIsHeardLaw = (e : Cea608) (f : Field) (x y : Code) → isText e ≡ false → codesOf e f ≡ codes x y → Reported x y f e
