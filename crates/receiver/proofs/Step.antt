@@ -1,10 +1,10 @@
--- What one pair does: a refusal changes nothing, text is never skipped, and a command that has no event still sets the
--- channel.
+-- What one pair does: a refusal changes nothing, text is never skipped, and a command that has no event still sets channel
+-- and field.
 -- Assumes nothing.
 use mathlib.Core.Bool.{Bool, true, false, cond}
 use mathlib.Core.List.{[], _∷_, map}
 use mathlib.Core.Option.{none}
-use mathlib.Core.Path.{_≡_, refl, ap, sym, _∙_}
+use mathlib.Core.Path.{_≡_, refl, ap, sym, subst, _∙_}
 use Prim.Native.Nat.{ℕ}
 use Rattle.code.proofs.OneAnswer.{clash}
 use Rattle.code.proofs.Written.{even-is-refused, odd-is-read, read-as-text, single-is-no-command}
@@ -13,9 +13,12 @@ use Rattle.code.specs.Outcome.{Outcome, answer, refused}
 use Rattle.code.specs.Parity.{isOdd, stripped}
 use Rattle.code.specs.Read.{codesOfBytes, isCommand, isOddPair, readPair, single}
 use Rattle.code.specs.declared.channel.Channel.{Channel}
+use Rattle.code.specs.declared.channel.Field.{Field}
 use Rattle.code.specs.declared.character.Character.the-variants.{Absent}
 use Rattle.code.specs.declared.code.Code.{Code}
 use Rattle.code.specs.declared.code.Code.the-variants as code
+use Rattle.code.specs.declared.control.CodeField.{CodeField}
+use Rattle.code.specs.declared.control.CodeField.the-variants as field
 use Rattle.code.specs.declared.control.Command.the-variants.{AlarmOff, AlarmOn, FlashOn, TextRestart, ResumeTextDisplay}
 use Rattle.code.specs.declared.control.Control.the-variants as control
 use Rattle.code.specs.declared.control.ControlCode.{ControlCode}
@@ -23,8 +26,11 @@ use Rattle.code.specs.declared.pair.Pair.{Pair}
 use Rattle.code.specs.declared.symbol.Symbol.{Symbol}
 use Rattle.receiver.specs.Heard.{commandEvent, controlEvent, eventOf}
 use Rattle.receiver.specs.Reading.{once}
-use Rattle.receiver.specs.Receiver.{acts, afterReading, forgotten, heardCodes, heardCommand, heardText, isLast, step, Stepped}
+use Rattle.receiver.specs.Receiver.{acts, afterReading, fieldAfter, forgotten, heardCodes, heardCommand, heardText, isLast, lastField, step, Stepped}
 use Rattle.receiver.specs.declared.state.Cea608State.{Cea608State}
+use Rattle.receiver.specs.declared.state.LastChannel.the-variants as channel
+use Rattle.receiver.specs.declared.state.LastField.the-variants as last-field
+use Rattle.receiver.specs.declared.state.LastPair.the-variants as last
 use Rattle.event.specs.Mode.{modeOf}
 
 -- a pair that is read as a command
@@ -119,6 +125,24 @@ unknown-without-event ch a b = refl
 pub symbol-without-event : (ch : Channel) (s : Symbol) → symbolChar s ≡ Absent → controlEvent ch (control.Symbol s) ≡ none
 symbol-without-event ch s h = rw h
 
--- such a command sets the channel and gives no event
-pub silent-command : (s : Cea608State) (p : Pair) (c : ControlCode) → IsCommand p c → isLast p (s .«last_data») ≡ false → eventOf c ≡ none → step s p ≡ (answer none, acts s p c .1)
-silent-command s p c h other silent = command-acts s p c h other ∙ rw silent
+-- what a command leaves: it is the last pair, its channel is the last channel, and the last field is its own, or as it was
+-- where it names none
+pub record Sets (p : Pair) (c : ControlCode) (before after : Cea608State) : Type 0 where
+  pub pair : after .«last_data» ≡ last.Was p
+  pub channel : after .«last_channel» ≡ channel.Known (c .channel)
+  pub own-field : (f : Field) → c .field ≡ field.Of f → lastField after ≡ last-field.Known f
+  pub no-field : c .field ≡ field.Absent → lastField after ≡ lastField before
+
+-- with an event or without one
+pub a-command-sets : (s : Cea608State) (p : Pair) (c : ControlCode) → IsCommand p c → isLast p (s .«last_data») ≡ false → Sets p c s (step s p .1)
+a-command-sets s p c h other =
+    subst (λ (r : Stepped). Sets p c s (r .1)) (sym (command-acts s p c h other))
+    (record {
+      pair = refl;
+      channel = refl;
+      own-field = λ f own. ap (λ (g : CodeField). fieldAfter g (lastField s)) own;
+      no-field = λ none-named. ap (λ (g : CodeField). fieldAfter g (lastField s)) none-named;
+    })
+
+pub silent-command : (s : Cea608State) (p : Pair) (c : ControlCode) → IsCommand p c → isLast p (s .«last_data») ≡ false → eventOf c ≡ none → step s p .0 ≡ answer none
+silent-command s p c h other silent = ap (λ (r : Stepped). r .0) (command-acts s p c h other) ∙ ap answer silent

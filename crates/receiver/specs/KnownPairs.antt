@@ -54,11 +54,12 @@ pub record Leaves : Type 0 where
 abbrev leaves : List Pair → Channel → Field → Leaves
 leaves ps ch f = record { pairs = ps; channel = ch; field = f }
 
--- erase displayed memory for the four services; then a preamble, which names the channel and no field, and text, which
--- names neither
+-- erase displayed memory for the four services; then a preamble, which names the channel and no field; flash, which has no
+-- event and names both; and text, which names neither
 abbrev pub knownToLeave : List Leaves
 knownToLeave =
     leaves (pair 0x94 0x2C ∷ []) channelOne fieldOne ∷ leaves (pair 0x1C 0x2C ∷ []) channelTwo fieldOne
     ∷ leaves (pair 0x15 0x2C ∷ []) channelOne fieldTwo ∷ leaves (pair 0x9D 0x2C ∷ []) channelTwo fieldTwo
     ∷ leaves (pair 0x15 0x2C ∷ pair 0x1C 0x70 ∷ []) channelTwo fieldTwo
+    ∷ leaves (pair 0x15 0x2C ∷ pair 0x1C 0xA8 ∷ []) channelTwo fieldOne
     ∷ leaves (pair 0x1C 0x2C ∷ pair 0xC8 0xE9 ∷ []) channelTwo fieldOne ∷ []
