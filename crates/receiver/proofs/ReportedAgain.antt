@@ -60,7 +60,7 @@ Again e f = (x : Code) × (y : Code) × (codesOf e f ≡ codes x y) × Reported 
 
 -- an event that is no text, by its codes
 no-text-again : (e : Cea608) (f : Field) (x y : Code) → isText e ≡ false → codesOf e f ≡ codes x y → Again e f
-no-text-again e f x y is told = (x, y, told, said-is-heard e f x y is told)
+no-text-again e f x y is told = (x, y, told, said-is-heard e f x y is told .0)
 
 -- an event that is given is the one that was reported
 is-given : (e : Cea608) (f : Field) (d : Cea608) → some d ≡ some e → Again d f → Again e f
@@ -110,7 +110,7 @@ symbol-by s ch e f (character.Point c) has is =
       x,
       code.Nul,
       ap (λ (o : Outcome Code). inOrder o (answer code.Nul)) (a-symbol-is-its-characters-code field.Absent ch s c ch has),
-      control-reported field.Absent f ch (control.Symbol s) _ (symbol-reads-back field.Absent ch s) (ap (symbolText ch s) has) refl refl,
+      control-reported field.Absent f ch (control.Symbol s) _ (symbol-reads-back field.Absent ch s) (ap (symbolText ch s) has) refl refl .0,
     )
 
 control-again : (c : Control) (ch : Channel) (e : Cea608) (f : Field) → ((p : PreambleAddressCode) → c ≡ control.Preamble p → p .row < 15) → controlEvent ch c ≡ some e → Again e f

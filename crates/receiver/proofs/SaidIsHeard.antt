@@ -38,7 +38,7 @@ use Rattle.event.specs.declared.mode.Mode.the-variants.{PopOn, PaintOn, RollUp2
 use Rattle.receiver.proofs.Step.{command-acts}
 use Rattle.receiver.specs.Heard.{controlEvent, eventOf, newMode}
 use Rattle.receiver.specs.Receiver.{Stepped, fieldAfter, lastField, state}
-use Rattle.receiver.specs.SaidIsHeard.{Reported, SaidIsHeardLaw, fieldNamed}
+use Rattle.receiver.specs.SaidIsHeard.{CommandReported, SaidIsHeardLaw, fieldNamed}
 use Rattle.receiver.specs.declared.state.LastChannel.the-variants as channel
 use Rattle.receiver.specs.declared.state.LastPair.the-variants as last
 
@@ -48,17 +48,20 @@ unfolding writeCode
 nul-written = refl
 
 -- a control that has an event and is read back is reported, where its channel and its field are the event's
-pub control-reported : (g : CodeField) (f : Field) (ch : Channel) (c : Control) (e : Cea608) → ReadsBack g ch c → controlEvent ch c ≡ some e → ch ≡ channelOfEvent e → fieldRead g c ≡ fieldNamed e f → Reported (code.Control (record { field = g; channel = ch; control = c })) code.Nul f e
+pub control-reported : (g : CodeField) (f : Field) (ch : Channel) (c : Control) (e : Cea608) → ReadsBack g ch c → controlEvent ch c ≡ some e → ch ≡ channelOfEvent e → fieldRead g c ≡ fieldNamed e f → CommandReported (code.Control (record { field = g; channel = ch; control = c })) code.Nul f e
 unfolding eventOf
-control-reported g f ch c e back is on named = record {
-  pair = back .pair;
-  written = ap₂ together (back .written) nul-written;
-  command-decoded = λ is-command s other.
-      command-acts s (back .pair) (record { field = fieldRead g c; channel = ch; control = c }) (code.Nul, back .read) other
-      ∙ ap₂ {C = Stepped} (λ (o : Option Cea608) (d : Channel). (answer o, state (last.Was (back .pair)) (channel.Known d) (fieldAfter (fieldRead g c) (lastField s)))) is on
-      ∙ ap {B = Stepped} (λ (h : CodeField). (answer (some e), state (last.Was (back .pair)) (channel.Known (channelOfEvent e)) (fieldAfter h (lastField s)))) named;
-  text-decoded = λ is-text s on-it. absurd (true≢false (sym (back .is-command) ∙ is-text));
-}
+control-reported g f ch c e back is on named = (
+  record {
+    pair = back .pair;
+    written = ap₂ together (back .written) nul-written;
+    command-decoded = λ is-command s other.
+        command-acts s (back .pair) (record { field = fieldRead g c; channel = ch; control = c }) (code.Nul, back .read) other
+        ∙ ap₂ {C = Stepped} (λ (o : Option Cea608) (d : Channel). (answer o, state (last.Was (back .pair)) (channel.Known d) (fieldAfter (fieldRead g c) (lastField s)))) is on
+        ∙ ap {B = Stepped} (λ (h : CodeField). (answer (some e), state (last.Was (back .pair)) (channel.Known (channelOfEvent e)) (fieldAfter h (lastField s)))) named;
+    text-decoded = λ is-text s on-it. absurd (true≢false (sym (back .is-command) ∙ is-text));
+  },
+  back .is-command,
+)
 
 -- its two codes are what was handed in
 unfoldable pub first-code : Turned → Code
@@ -73,19 +76,19 @@ second-code (refusal n) = code.Nul
 second-code (no-first n) = code.Nul
 second-code (no-second n) = code.Nul
 
-alone-reported : (f : Field) (ch : Channel) (c : Control) (e : Cea608) (x y : Code) → ReadsBack (field.Of f) ch c → controlEvent ch c ≡ some e → ch ≡ channelOfEvent e → fieldRead (field.Of f) c ≡ fieldNamed e f → alone f ch c ≡ codes x y → Reported x y f e
+alone-reported : (f : Field) (ch : Channel) (c : Control) (e : Cea608) (x y : Code) → ReadsBack (field.Of f) ch c → controlEvent ch c ≡ some e → ch ≡ channelOfEvent e → fieldRead (field.Of f) c ≡ fieldNamed e f → alone f ch c ≡ codes x y → CommandReported x y f e
 unfolding first-code second-code
 alone-reported f ch c e x y back is on named told =
     let first : code.Control (controlCode f ch c) ≡ x = ap first-code told in
     let second : code.Nul ≡ y = ap second-code told in
-    subst (λ (z : Code). Reported x z f e) second
-    (subst (λ (z : Code). Reported z code.Nul f e) first (control-reported (field.Of f) f ch c e back is on named))
+    subst (λ (z : Code). CommandReported x z f e) second
+    (subst (λ (z : Code). CommandReported z code.Nul f e) first (control-reported (field.Of f) f ch c e back is on named))
 
 -- tabs of 1, 2 and 3 columns
 tab-again : (n : ℕ) → 1 ≤ n → n ≤ 3 → tabNumber (tabOf n) ≡ n
 tab-again n from to = agree-from (λ (k : ℕ). tabNumber (tabOf k)) (λ (k : ℕ). k) 1 3 refl n from (omega arith)
 
-tab-by : (f : Field) (ch : Channel) (n : ℕ) (x y : Code) (t : Bool) → within 1 3 n ≡ t → orRefusal f ch (cond t (answer (control.Tab (tabOf n))) (refused 4)) ≡ codes x y → Reported x y f (event.TabOffset ch n)
+tab-by : (f : Field) (ch : Channel) (n : ℕ) (x y : Code) (t : Bool) → within 1 3 n ≡ t → orRefusal f ch (cond t (answer (control.Tab (tabOf n))) (refused 4)) ≡ codes x y → CommandReported x y f (event.TabOffset ch n)
 tab-by f ch n x y true inside told =
     let range = bounds 1 3 n inside in
     let same-count = tab-again n (range .0) (range .1) in
@@ -94,13 +97,13 @@ tab-by f ch n x y true inside told =
 tab-by f ch n x y false outside told = let z : _≡_ {A = ℕ} 0 1 = cc in absurd (omega arith)
 
 -- preambles of the rows 0 to 14
-row-by : (f : Field) (ch : Channel) (p : PreambleAddressCode) (x y : Code) (t : Bool) → leb (p .row) 14 ≡ t → orRefusal f ch (cond t (answer (control.Preamble p)) (refused 3)) ≡ codes x y → Reported x y f (event.Preamble ch p)
+row-by : (f : Field) (ch : Channel) (p : PreambleAddressCode) (x y : Code) (t : Bool) → leb (p .row) 14 ≡ t → orRefusal f ch (cond t (answer (control.Preamble p)) (refused 3)) ≡ codes x y → CommandReported x y f (event.Preamble ch p)
 row-by f ch p x y true inside told =
     let row : p .row < 15 = omega (arith, leb-true (p .row) 14 inside) in
     alone-reported f ch (control.Preamble p) (event.Preamble ch p) x y (preamble-reads-back (field.Of f) ch p row) refl refl refl told
 row-by f ch p x y false outside told = let z : _≡_ {A = ℕ} 0 1 = cc in absurd (omega arith)
 
-command-reported : (f : Field) (ch : Channel) (c : Command) (e : Cea608) (x y : Code) → controlEvent ch (control.Command c) ≡ some e → ch ≡ channelOfEvent e → field.Of f ≡ fieldNamed e f → alone f ch (control.Command c) ≡ codes x y → Reported x y f e
+command-reported : (f : Field) (ch : Channel) (c : Command) (e : Cea608) (x y : Code) → controlEvent ch (control.Command c) ≡ some e → ch ≡ channelOfEvent e → field.Of f ≡ fieldNamed e f → alone f ch (control.Command c) ≡ codes x y → CommandReported x y f e
 command-reported f ch c e x y is on named told =
     alone-reported f ch (control.Command c) e x y (command-reads-back (field.Of f) ch c) is on named told
 

@@ -103,7 +103,7 @@ symbol-heard f ch (character.Point p) l c first second =
     let none-left : l ≡ character.Absent = sym (has-its-character l ch code.Nul second) in
     subst (λ (d : ControlCode). Reported (code.Control d) code.Nul f (asText d (character.Point p) l ch)) (sym (found .1))
     (subst (λ (m : Character). Reported (code.Control (bareSymbol ch s)) code.Nul f (asText (bareSymbol ch s) (character.Point p) m ch)) (sym none-left)
-    (control-reported field.Absent f ch (control.Symbol s) _ (symbol-reads-back field.Absent ch s) (ap (heard.symbolText ch s) has) refl refl))
+    (control-reported field.Absent f ch (control.Symbol s) _ (symbol-reads-back field.Absent ch s) (ap (heard.symbolText ch s) has) refl refl .0))
 symbol-heard f ch character.Absent l c first second = let z : _≡_ {A = ℕ} 0 1 = cc in absurd (omega arith)
 
 shared : (t : Text) (f : Field) (x y : Code) → characterCode (t .char1) (t .channel) ≡ answer x → characterCode (t .char2) (t .channel) ≡ answer y → InOnePair x y → Reported x y f (event.Text (marked t x))

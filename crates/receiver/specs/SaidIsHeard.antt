@@ -59,8 +59,12 @@ pub record Reported (x y : Code) (f : Field) (e : Cea608) : Type 0 where
   pub command-decoded : isCommandPair pair ≡ true → (s : Cea608State) → isLast pair (s .«last_data») ≡ false → step s pair ≡ reports s pair f e
   pub text-decoded : isCommandPair pair ≡ false → (s : Cea608State) → s .«last_channel» ≡ channel.Known (channelOfEvent e) → step s pair ≡ reports s pair f e
 
+-- the pair of an event that is no text is a command pair
+abbrev pub CommandReported : Code → Code → Field → Cea608 → Type 0
+CommandReported x y f e = (r : Reported x y f e) × (isCommandPair (r .pair) ≡ true)
+
 abbrev pub SaidIsHeardLaw : Type 0
-SaidIsHeardLaw = (e : Cea608) (f : Field) (x y : Code) → isText e ≡ false → codesOf e f ≡ codes x y → Reported x y f e
+SaidIsHeardLaw = (e : Cea608) (f : Field) (x y : Code) → isText e ≡ false → codesOf e f ≡ codes x y → CommandReported x y f e
 
 -- the codes of a text share one pair where both are standard characters, or one of them is and the other is absent, or
 -- where a symbol stands alone; a symbol beside another character needs two pairs
