@@ -25,7 +25,8 @@ use Rattle.receiver.specs.declared.state.Cea608State.{Cea608State}
 use Rattle.receiver.specs.declared.state.LastChannel.{LastChannel}
 use Rattle.receiver.specs.declared.state.LastPair.{LastPair}
 use Rattle.receiver.specs.declared.state.LastPair.the-variants as last
-use Rattle.agreement.proofs.OneByOne.{same-is-equal, same-itself}
+use Rattle.agreement.proofs.OneByOne.{same-is-equal}
+use Rattle.code.proofs.SamePair.{same-itself}
 use Rattle.agreement.specs.Doubled.{doubled}
 use Rattle.agreement.specs.OneByOne.{AllOdd, OneByOne, goesOn, wasCorrupted}
 use Rattle.agreement.specs.OneByOne as one

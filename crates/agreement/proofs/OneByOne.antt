@@ -7,9 +7,10 @@ use mathlib.Core.Option.{Option, none, some}
 use mathlib.Core.Path.{_≡_, refl, ap, ap₂, sym, subst, _∙_}
 use Prim.Native.Nat.{ℕ, zero, suc, _≤_}
 use native.Mathlib.Omega.{arith}
-use borrow.Author.Tests.{eq-eqb, eqb-true}
+use borrow.Author.Tests.{eqb-true}
 use lib.Dec.{eqb}
 use lib.ListN.{drop, getD, length, replicate, take}
+use Rattle.code.proofs.SamePair.{same-itself}
 use Rattle.code.proofs.Both.{both-true}
 use Rattle.code.specs.Pair.{samePair}
 use Rattle.code.specs.Read.{isOddPair}
@@ -19,9 +20,6 @@ use Rattle.agreement.specs.Agreement.{Carried, Line, OneEachStretch, how
 use Rattle.agreement.specs.Agreement as line
 use Rattle.agreement.specs.OneByOne.{AllOdd, OneByOne, goesOn, wasCorrupted}
 use Rattle.agreement.specs.OneByOne as one
-
-pub same-itself : (p : Pair) → samePair p p ≡ true
-same-itself p = rw (eq-eqb (p .0) (p .0) refl, eq-eqb (p .1) (p .1) refl)
 
 pub same-is-equal : (p q : Pair) → samePair p q ≡ true → p ≡ q
 same-is-equal p q e =

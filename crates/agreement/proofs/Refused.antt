@@ -14,7 +14,8 @@ use Rattle.receiver.proofs.Step.{even-is-refused-1, odd-is-not-refused}
 use Rattle.receiver.specs.Reading.{answers}
 use Rattle.receiver.specs.Receiver.{Stepped, step}
 use Rattle.receiver.specs.declared.state.Cea608State.{Cea608State}
-use Rattle.agreement.proofs.OneByOne.{same-itself, corrupted-is-another}
+use Rattle.agreement.proofs.OneByOne.{corrupted-is-another}
+use Rattle.code.proofs.SamePair.{same-itself}
 use Rattle.agreement.specs.Agreement.{All, ByNumber1, Carried, isRefusal, corruptedPlaces}
 use Rattle.agreement.specs.Agreement as line
 use Rattle.agreement.specs.OneByOne.{AllOdd}

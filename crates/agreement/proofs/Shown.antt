@@ -65,6 +65,7 @@ use Rattle.agreement.specs.Agreement.{Agreement, All, EndsIdle, queuePai
 use Rattle.agreement.specs.Pairs.{hi, padding, rollUp2, spaceAlone}
 use Rattle.agreement.specs.QueuedCommands.{HeldNext, Packed, WellPacked, acceptedIn, codesIn, packed, pairsIn}
 use Rattle.agreement.specs.Shown.{as-sent, padded-anew, Shows, ShownLaw, TwoRunsLaw, WholeRun, eachAlone, noHalfCommand, byCharacter, shown}
+use Rattle.code.specs.KnownCodes.{letter-H, letter-i}
 
 -- what an answer shows stands before what the answers after it show
 abbrev shownBy : Outcome (Option Cea608) → List Cea608
@@ -313,12 +314,6 @@ two-runs-show-the-same calls calls′ sent sent′ arrived arrived′ run run′
     }
 
 -- H and i, each sent once it is pushed, and both pushed first: the pairs differ, and so do the events
-abbrev letter-H : Code
-letter-H = single 0x48
-
-abbrev letter-i : Code
-letter-i = single 0x69
-
 abbrev oneAtATime : List Call
 oneAtATime =
     pushing (command RollUp2) ∷ sending ∷ sending ∷ pushing letter-H ∷ sending ∷ pushing letter-i ∷ sending ∷ []

@@ -8,7 +8,7 @@ use lib.ListN.{replicate}
 use Rattle.code.specs.Channel.{channelOne, fieldOne, fieldTwo}
 use Rattle.code.specs.MidRow.{italic}
 use Rattle.code.specs.Outcome.{Outcome, answer}
-use Rattle.code.specs.Read.{readPair, single}
+use Rattle.code.specs.Read.{readPair}
 use Rattle.code.specs.Pair.{pair}
 use Rattle.code.specs.declared.code.Code.{Code}
 use Rattle.code.specs.declared.code.Code.the-variants as code
@@ -25,11 +25,12 @@ use Rattle.event.specs.declared.event.Cea608.{Cea608}
 use Rattle.event.specs.declared.event.Cea608.the-variants as event
 use Rattle.event.specs.declared.mode.Mode.the-variants.{RollUp2}
 use Rattle.agreement.specs.Pairs.{hi, padding, rollUp2}
-use Rattle.queue.specs.Calls.{Reply, popping, pushing, ringReplies, toPop, toPush}
+use Rattle.queue.specs.Calls.{acceptance, popping, pushing, Reply, ringReplies, toPop}
 use Rattle.queue.specs.Ring.{freshRing}
 use Rattle.receiver.specs.Reading.{answers}
 use Rattle.receiver.specs.Receiver.{fresh}
 use Rattle.sender.specs.SendsLeft.{A-acute}
+use Rattle.code.specs.KnownCodes.{letter-H}
 
 pub data Tried : Type 0 where
   reads : Pair → Tried
@@ -65,14 +66,8 @@ row-10-white = control.Preamble (record { row = 10; underline = false; ty = styl
 abbrev two-rows : Outcome (Option Cea608)
 two-rows = answer (some (event.NewMode channelOne RollUp2))
 
-abbrev accepted : Reply
-accepted = toPush (answer tt)
-
 abbrev popGives : ℕ → ℕ → Reply
 popGives a b = toPop (answer (pair a b))
-
-abbrev letter-H : Code
-letter-H = single 0x48
 
 -- row 10 white; no row; erase for field two and for field one; tab 1; italics; an event, none, an event; two events; none;
 -- padding; H and a space, then Á; a space, then Á
@@ -86,5 +81,5 @@ cases =
     ∷ case (hears (rollUp2 ∷ rollUp2 ∷ rollUp2 ∷ [])) (heard (two-rows ∷ answer none ∷ two-rows ∷ []))
     ∷ case (hears (rollUp2 ∷ padding ∷ rollUp2 ∷ [])) (heard (two-rows ∷ answer none ∷ two-rows ∷ []))
     ∷ case (hears (hi ∷ [])) (heard (answer none ∷ [])) ∷ case (queues [] 1) (replies (popGives 0x80 0x80 ∷ []))
-    ∷ case (queues (letter-H ∷ A-acute ∷ []) 2) (replies (accepted ∷ accepted ∷ popGives 0xC8 0x20 ∷ popGives 0x92 0x20 ∷ []))
-    ∷ case (queues (A-acute ∷ []) 2) (replies (accepted ∷ popGives 0x20 0x80 ∷ popGives 0x92 0x20 ∷ [])) ∷ []
+    ∷ case (queues (letter-H ∷ A-acute ∷ []) 2) (replies (acceptance ∷ acceptance ∷ popGives 0xC8 0x20 ∷ popGives 0x92 0x20 ∷ []))
+    ∷ case (queues (A-acute ∷ []) 2) (replies (acceptance ∷ popGives 0x20 0x80 ∷ popGives 0x92 0x20 ∷ [])) ∷ []

@@ -8,9 +8,10 @@ use mathlib.Core.List.{List, [], _∷_, _++_, map}
 use lib.Dec.{eqb}
 use Rattle.code.specs.Code.{charOf}
 use Rattle.code.specs.Pair.{pair, plus}
-use Rattle.code.specs.Read.{controlCodeOf}
+use Rattle.code.specs.Read.{controlCodeOf, single}
 use Rattle.code.specs.declared.character.Character.{Character}
 use Rattle.code.specs.declared.character.Character.the-variants.{Point, Absent}
+use Rattle.code.specs.declared.code.Code.{Code}
 use Rattle.code.specs.declared.code.Code.the-variants as code
 use Rattle.code.specs.declared.pair.Pair.{Pair}
 use Rattle.code.specs.declared.preamble.PreambleType.{PreambleType}
@@ -101,3 +102,13 @@ indentColumns = 0 ∷ 4 ∷ 8 ∷ 12 ∷ 16 ∷ 20 ∷ 24 ∷ 28 ∷ []
 
 abbrev pub indents : List PreambleType
 indents = Indent0 ∷ Indent4 ∷ Indent8 ∷ Indent12 ∷ Indent16 ∷ Indent20 ∷ Indent24 ∷ Indent28 ∷ []
+
+-- letters that cases of the crates above are about
+abbrev pub letter-A : Code
+letter-A = single 0x41
+
+abbrev pub letter-H : Code
+letter-H = single 0x48
+
+abbrev pub letter-i : Code
+letter-i = single 0x69

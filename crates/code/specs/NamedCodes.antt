@@ -54,8 +54,8 @@ coded a b f c = record {
   length = 2;
 }
 
-abbrev single : ℕ → Code → Named
-single b c = record { pair = pair (withParity b) (withParity 0); code = c; length = 1 }
+abbrev oneByte : ℕ → Code → Named
+oneByte b c = record { pair = pair (withParity b) (withParity 0); code = c; length = 1 }
 
 -- 14 20 to 14 2F
 abbrev command : ℕ → Command → Named
@@ -87,11 +87,11 @@ rows =
 
 -- NUL, and one byte that means nothing
 abbrev others : List Named
-others = single 0 code.Nul ∷ single 0x01 (code.Unknown 0x01) ∷ single 0x0F (code.Unknown 0x0F) ∷ []
+others = oneByte 0 code.Nul ∷ oneByte 0x01 (code.Unknown 0x01) ∷ oneByte 0x0F (code.Unknown 0x0F) ∷ []
 
 -- the columns by @ and A to O; the rows of letters by ! 1 A Q a q
 abbrev letter : ℕ → LetterRow → Column → Named
-letter b r c = single b (code.Letter (record { row = r; column = c }))
+letter b r c = oneByte b (code.Letter (record { row = r; column = c }))
 
 abbrev letters : List Named
 letters =

@@ -14,7 +14,7 @@ use Rattle.code.proofs.CommandCodes.{written-says-command}
 use Rattle.code.proofs.Written.{domain-is-written, settled, written-is-sent}
 use Rattle.code.specs.Channel.{channelOne}
 use Rattle.code.specs.Outcome.{Outcome, answer, isAnswer, refused}
-use Rattle.code.specs.Read.{controlCodeOf, isCommandPair, meaning, readPair, single}
+use Rattle.code.specs.Read.{controlCodeOf, isCommandPair, meaning, readPair}
 use Rattle.code.specs.Pair.{pair}
 use Rattle.code.specs.Write.{inDomain, isCommandCode, isCommandControl, writeCode}
 use Rattle.code.specs.declared.code.Code.{Code}
@@ -29,12 +29,13 @@ use Rattle.queue.proofs.Pairs.{popped-command}
 use Rattle.queue.proofs.Dressed.{dressed-exactly, queueable-is-in-domain, queueable-is-not-dressed}
 use Rattle.queue.proofs.Sends.{made-of}
 use Rattle.queue.proofs.WellFormed.{held-queueable, may-queueable}
-use Rattle.queue.specs.Calls.{Reply, listReplies, popping, pushing, toPop, toPush}
+use Rattle.queue.specs.Calls.{acceptance, listReplies, popping, pushing, toPop}
 use Rattle.queue.specs.Good.{Fit}
 use Rattle.queue.specs.Queue.{Queued, admit, empty, inside, isSingle, mayWait, pairOf, pop, queued, pairWritten}
 use Rattle.queue.specs.Queueable.{isQueueable, queueable}
 use Rattle.queue.specs.Ring.{allMayWait}
 use Rattle.queue.specs.Made.{IsByte, MadeOf, command-alone, last-single, nothing-to-send, single-before, space-before, two-singles, hasTwoByteCode, isHalfCommand, makesCommand, readsCommand}
+use Rattle.code.specs.KnownCodes.{letter-A}
 
 -- a code that may be queued goes out with a first byte of 10 to 1F exactly where it is one that is sent as a command
 says : (c : Code) (o : Outcome (Pair × ℕ)) → writeCode c ≡ o → isAnswer (settled o) ≡ true → isCommandPair (pairWritten o) ≡ isCommandCode c
@@ -101,12 +102,6 @@ popped-is-a-command v f = by-made (made-of v f) (taken-queueable v f)
 pub popped-is-read : (v : Queued) → Fit v → readsCommand (readPair (pop v .pair .0) (pop v .pair .1)) ≡ makesCommand (pop v .took)
 popped-is-read v f = popped-command v f ∙ popped-is-a-command v f
 
-abbrev accepted : Reply
-accepted = toPush (answer tt)
-
-abbrev letter-A : Code
-letter-A = single 0x41
-
 -- the exception: `Unknown` 14 before A goes out as 94 C1, which a receiver reads as a preamble, row 13 in white, underlined
 abbrev row-13-underlined : Code
 row-13-underlined = code.Control (record {
@@ -116,7 +111,7 @@ row-13-underlined = code.Control (record {
 })
 
 pub half-a-command-makes-a-command :
-    (listReplies (pushing (code.Unknown 0x14) ∷ pushing letter-A ∷ popping ∷ []) empty ≡ accepted ∷ accepted ∷ toPop (answer (pair 0x94 0xC1)) ∷ [])
+    (listReplies (pushing (code.Unknown 0x14) ∷ pushing letter-A ∷ popping ∷ []) empty ≡ acceptance ∷ acceptance ∷ toPop (answer (pair 0x94 0xC1)) ∷ [])
     × (readPair 0x94 0xC1 ≡ answer (row-13-underlined, code.Nul))
 unfolding ones onesIn writeCode inDomain queueable admit pairOf pop readPair meaning controlCodeOf
 half-a-command-makes-a-command = (refl, refl)

@@ -13,7 +13,6 @@ use Rattle.code.proofs.Both.{both-left, both-right}
 use Rattle.code.specs.Channel.{channelOne, channelTwo}
 use Rattle.code.specs.Code.{byteLen}
 use Rattle.code.specs.Outcome.{Outcome, answer, isAnswer, refused}
-use Rattle.code.specs.Read.{single}
 use Rattle.code.specs.Pair.{pair}
 use Rattle.code.specs.Write.{controlBytes, inDomain, isCommandCode, isCommandControl, onLine, writeCode}
 use Rattle.code.specs.declared.channel.Channel.{Channel}
@@ -23,11 +22,12 @@ use Rattle.code.specs.declared.control.CodeField.the-variants.{Absent}
 use Rattle.code.specs.declared.control.Control.{Control}
 use Rattle.code.specs.declared.control.Control.the-variants as control
 use Rattle.queue.proofs.WellFormed.{formed, held-queueable, may-queueable}
-use Rattle.queue.specs.Calls.{Reply, listReplies, popping, pushing, toPop, toPush}
+use Rattle.queue.specs.Calls.{acceptance, listReplies, popping, pushing, Reply, toPop, toPush}
 use Rattle.queue.specs.Queue.{admit, empty, heldCodes, inside, isNul, mayWait, pairOf, pop}
 use Rattle.queue.specs.Queueable.{isDressed, isDressedControl, isQueueable, noneDressed, queueable, unlessDressed}
 use Rattle.queue.specs.Ring.{allMayWait, heldFits, heldIn, pushRing, view, waitingIn, wellFormed}
 use Rattle.queue.specs.declared.ring.Queue.{Queue}
+use Rattle.code.specs.KnownCodes.{letter-A}
 
 written-by : (dressed : Bool) (o : Outcome Unit) → isAnswer (unlessDressed dressed o) ≡ true → isAnswer o ≡ true
 written-by dressed (answer u) e = refl
@@ -108,12 +108,6 @@ pub no-text-inside : (q : Queue) → wellFormed q ≡ true → noneDressed (insi
 no-text-inside q e = let f = formed q e in inside-undressed (heldIn (q .held)) (waitingIn q) (f .held) (f .codes)
 
 -- cases of 18, computed on the list
-abbrev accepted : Reply
-accepted = toPush (answer tt)
-
-abbrev letter-A : Code
-letter-A = single 0x41
-
 -- the two-byte `Unknown` of a channel
 abbrev unknown : Channel → ℕ → ℕ → Code
 unknown ch a b = code.Control (record { field = Absent; channel = ch; control = control.Unknown a b })
@@ -123,7 +117,7 @@ pub text-is-refused : listReplies (pushing (unknown channelOne 0x41 0x42) ∷ po
 unfolding ones onesIn writeCode inDomain queueable admit pairOf pop
 text-is-refused = refl
 
--- on either channel 0F and 20 are refused, and 10 and 1F accepted
+-- on either channel 0F and 20 are refused, and 10 and 1F acceptance
 abbrev alone : Channel → ℕ → List Reply
 alone ch a = listReplies (pushing (unknown ch a 0x41) ∷ popping ∷ []) empty
 
@@ -135,7 +129,7 @@ unfolding inDomain queueable admit pop
 first-bytes-refused = (refl, refl, refl, refl)
 
 abbrev goes-out : ℕ → List Reply
-goes-out a = accepted ∷ toPop (answer (pair a 0xC1)) ∷ []
+goes-out a = acceptance ∷ toPop (answer (pair a 0xC1)) ∷ []
 
 pub first-bytes-accepted : (alone channelOne 0x10 ≡ goes-out 0x10) × (alone channelOne 0x1F ≡ goes-out 0x1F) × (alone channelTwo 0x10 ≡ goes-out 0x98) × (alone channelTwo 0x1F ≡ goes-out 0x1F)
 unfolding ones onesIn writeCode inDomain queueable admit pairOf pop onLine controlBytes
@@ -144,6 +138,6 @@ first-bytes-accepted = (refl, refl, refl, refl)
 -- 2 comes before 18, and 18 before 7
 pub between-2-and-7 :
     (listReplies (pushing (unknown channelOne 0x41 0x80) ∷ []) empty ≡ toPush (refused 2) ∷ [])
-    × (listReplies (replicate 64 (pushing letter-A) ++ (pushing (unknown channelOne 0x41 0x42) ∷ pushing letter-A ∷ [])) empty ≡ replicate 64 accepted ++ (toPush (refused 18) ∷ toPush (refused 7) ∷ []))
+    × (listReplies (replicate 64 (pushing letter-A) ++ (pushing (unknown channelOne 0x41 0x42) ∷ pushing letter-A ∷ [])) empty ≡ replicate 64 acceptance ++ (toPush (refused 18) ∷ toPush (refused 7) ∷ []))
 unfolding inDomain queueable admit
 between-2-and-7 = (refl, refl)

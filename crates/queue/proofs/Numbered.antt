@@ -10,18 +10,18 @@ use borrow.Author.Tests.{le-leb, leb-false, leb-true, lt-leb, lt-ltb, ltb-true}
 use lib.Dec.{eqb, leb, ltb}
 use Rattle.code.proofs.Agree.{agree, agree-from, agree-grid}
 use Rattle.code.proofs.Both.{both-left, both-right}
+use Rattle.code.proofs.Ranges.{command-range}
 use Rattle.code.proofs.KindByKind.{control-domain, bytes-written, letter-domain, letter-written, nul-domain, unknown-domain, unknown-written}
 use Rattle.code.proofs.MeantBack.{command-meant, command-pair, isPairOfControl, mid-row-meant, mid-row-pair, preamble-meant, preamble-pair, symbol-meant, symbol-pair, tab-meant, tab-pair}
 use Rattle.code.proofs.Numbers.{letter-again, letter-small}
 use Rattle.code.specs.Channel.{channelOne, channelTwo, fieldOne, fieldTwo}
 use Rattle.code.specs.Code.{controlNeedsBackspace, needsBackspace}
-use Rattle.code.specs.Control.{commandNumber, tabNumber}
 use Rattle.code.specs.Letter.{letterAt, letterPlace}
 use Rattle.code.specs.Outcome.{Outcome, answer, isAnswer, refused}
 use Rattle.code.specs.Parity.{withParity}
 use Rattle.code.specs.Read.{isCommand, meaning, orUnknown}
 use Rattle.code.specs.Pair.{pair}
-use Rattle.code.specs.Write.{asSingle, controlBytes, controlInDomain, midRowBytes, onLine, preambleBytes, symbolBytes, ofSevenBits, writeCode}
+use Rattle.code.specs.Write.{asSingle, commandBytes, controlBytes, controlInDomain, midRowBytes, ofSevenBits, onLine, preambleBytes, symbolBytes, tabBytes, writeCode}
 use Rattle.code.specs.declared.channel.Channel.{Channel}
 use Rattle.code.specs.declared.code.Code.{Code}
 use Rattle.code.specs.declared.code.Code.the-variants as code
@@ -282,9 +282,8 @@ meant-back : (f : CodeField) (ch : Channel) (c : Control) (p : Pair) → isPairO
 meant-back f ch c p fits means =
     let first = both-left (isCommand (p .0)) (ltb (p .1) 0x80) fits in
     let second = ltb-true (p .1) 0x80 (both-right (isCommand (p .0)) (ltb (p .1) 0x80) fits) in
-    let from = leb-true 0x10 (p .0) (both-left (leb 0x10 (p .0)) (leb (p .0) 0x1F) first) in
-    let to = leb-true (p .0) 0x1F (both-right (leb 0x10 (p .0)) (leb (p .0) 0x1F) first) in
-    by-digits f ch 0 (p .0) (p .1) (fieldNumber f + channelNumber ch + bytesNumber p) (omega arith) from (omega arith) second (omega arith)
+    let range = command-range (p .0) first in
+    by-digits f ch 0 (p .0) (p .1) (fieldNumber f + channelNumber ch + bytesNumber p) (omega arith) (range .0) (range .1) second (omega arith)
     ∙ ap {B = Code} (λ (o : Option Control). code.Control (record { field = f; channel = ch; control = orUnknown (p .0) (p .1) o })) means
 
 preamble-back : (f : CodeField) (ch : Channel) (p : PreambleAddressCode) (t : Bool) → leb (p .row) 14 ≡ t → isAnswer (unlessDressed false (cond t (answer tt) (refused 3))) ≡ true → codeOf (fieldNumber f + channelNumber ch + numberIn (cond t (answer (preambleBytes p)) (refused 3))) ≡ code.Control (record { field = f; channel = ch; control = control.Preamble p })
@@ -295,10 +294,9 @@ preamble-back f ch p false e may = absurd (true≢false (sym may))
 
 unknown-back : (f : CodeField) (ch : Channel) (a b : ℕ) (t u : Bool) → (ltb a 0x80 && ltb b 0x80) ≡ t → isCommand a ≡ u → isAnswer (unlessDressed (not u) (ofSevenBits t tt)) ≡ true → codeOf (fieldNumber f + channelNumber ch + (0x800 + numberIn (cond t (answer (pair a b)) (refused 2)))) ≡ code.Control (record { field = f; channel = ch; control = control.Unknown a b })
 unknown-back f ch a b true true e first may =
-    let from = leb-true 0x10 a (both-left (leb 0x10 a) (leb a 0x1F) first) in
-    let to = leb-true a 0x1F (both-right (leb 0x10 a) (leb a 0x1F) first) in
+    let range = command-range a first in
     let less = ltb-true b 0x80 (both-right (ltb a 0x80) (ltb b 0x80) e) in
-    by-digits f ch 1 a b (fieldNumber f + channelNumber ch + (0x800 + bytesNumber (pair a b))) (omega arith) from (omega arith) less (omega arith)
+    by-digits f ch 1 a b (fieldNumber f + channelNumber ch + (0x800 + bytesNumber (pair a b))) (omega arith) (range .0) (range .1) less (omega arith)
 unknown-back f ch a b true false e first may = absurd (true≢false (sym may))
 unknown-back f ch a b false u e first may = absurd (true≢false (sym may))
 
@@ -306,8 +304,8 @@ control-back : (f : CodeField) (ch : Channel) (c : Control) → isAnswer (contro
 unfolding controlBytes
 control-back f ch (control.MidRow m) may = meant-back f ch (control.MidRow m) (midRowBytes m) (mid-row-pair m) (mid-row-meant m)
 control-back f ch (control.Symbol s) may = meant-back f ch (control.Symbol s) (symbolBytes s) (symbol-pair s) (symbol-meant s)
-control-back f ch (control.Command c) may = meant-back f ch (control.Command c) (pair 0x14 (0x20 + commandNumber c)) (command-pair c) (command-meant c)
-control-back f ch (control.Tab t) may = meant-back f ch (control.Tab t) (pair 0x17 (0x20 + tabNumber t)) (tab-pair t) (tab-meant t)
+control-back f ch (control.Command c) may = meant-back f ch (control.Command c) (commandBytes c) (command-pair c) (command-meant c)
+control-back f ch (control.Tab t) may = meant-back f ch (control.Tab t) (tabBytes t) (tab-pair t) (tab-meant t)
 control-back f ch (control.Preamble p) may = preamble-back f ch p (leb (p .row) 14) refl may
 control-back f ch (control.Unknown a b) may = unknown-back f ch a b (ltb a 0x80 && ltb b 0x80) (isCommand a) refl refl may
 

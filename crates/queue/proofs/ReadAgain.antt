@@ -4,9 +4,8 @@ use mathlib.Core.Bool.{Bool, true, false, _&&_, not}
 use mathlib.Core.Path.{_≡_, refl, ap, sym, subst, _∙_}
 use Prim.Native.Nat.{ℕ, _<_}
 use native.Mathlib.Omega.{arith}
-use borrow.Author.Tests.{leb-true}
-use lib.Dec.{eqb, leb, lit<}
-use Rattle.code.proofs.Both.{both-left, both-right}
+use lib.Dec.{eqb, lit<}
+use Rattle.code.proofs.Ranges.{command-range}
 use Rattle.code.proofs.CommandCodes.{written-says-command}
 use Rattle.code.proofs.Lengths.{text-has-one-byte}
 use Rattle.code.proofs.OneAnswer.{same}
@@ -35,9 +34,8 @@ single-may b less =
 -- a command was read from a first byte of 10 to 1F
 command-may : (a b : ℕ) → isCommand a ≡ true → b < 128 → queueable (code.Control (controlCodeOf a b)) ≡ answer tt
 command-may a b e less =
-    let from = leb-true 0x10 a (both-left (leb 0x10 a) (leb a 0x1F) e) in
-    let to = leb-true a 0x1F (both-right (leb 0x10 a) (leb a 0x1F) e) in
-    let written = command-again a b from (omega arith) less in
+    let range = command-range a e in
+    let written = command-again a b (range .0) (range .1) less in
     let kept : stripped (withParity a) ≡ a = data-kept a ∙ omega arith in
     let is-command = sym (written-says-command _ _ _ written) ∙ ap isCommand kept ∙ e in
     written-may (code.Control (controlCodeOf a b)) (pair (withParity a) (withParity b)) 2 written

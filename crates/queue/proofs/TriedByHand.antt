@@ -19,19 +19,11 @@ use Rattle.code.specs.declared.control.CodeField.the-variants as field
 use Rattle.code.specs.declared.control.Control.the-variants as control
 use Rattle.queue.proofs.FirstInFirstOut.{ring-answers-as-the-list}
 use Rattle.queue.proofs.Refines.{fresh-good}
-use Rattle.queue.specs.Calls.{Call, Reply, counting, listReplies, popping, pushing, ringReplies, toCount, toPop, toPush}
+use Rattle.queue.specs.Calls.{acceptance, Call, counting, listReplies, popping, pushing, Reply, ringReplies, toCount, toPop, toPush}
 use Rattle.queue.specs.Queue.{admit, empty, pairOf, pop}
 use Rattle.queue.specs.Queueable.{queueable}
 use Rattle.queue.specs.Ring.{freshRing}
-
-abbrev accepted : Reply
-accepted = toPush (answer tt)
-
-abbrev letter-H : Code
-letter-H = single 0x48
-
-abbrev letter-i : Code
-letter-i = single 0x69
+use Rattle.code.specs.KnownCodes.{letter-H, letter-i}
 
 abbrev exclamation : Code
 exclamation = single 0x21
@@ -42,9 +34,9 @@ italics = code.Control (record { field = field.Absent; channel = channelOne; con
 -- the replies due to each sequence of calls, those to the pushes included
 abbrev Tried : (List Call → List Reply) → Type 0
 Tried replies =
-    (replies (pushing letter-H ∷ pushing letter-i ∷ pushing exclamation ∷ popping ∷ popping ∷ []) ≡ accepted ∷ accepted ∷ accepted ∷ toPop (answer (pair 0xC8 0xE9)) ∷ toPop (answer (pair 0xA1 0x80)) ∷ [])
-    × (replies (replicate 64 (pushing letter-H) ++ (pushing letter-H ∷ pushing code.Nul ∷ counting ∷ [])) ≡ replicate 64 accepted ++ (toPush (refused 7) ∷ accepted ∷ toCount (answer 64) ∷ []))
-    × (replies (pushing italics ∷ popping ∷ popping ∷ []) ≡ accepted ∷ toPop (answer (pair 0x20 0x80)) ∷ toPop (answer (pair 0x91 0xAE)) ∷ [])
+    (replies (pushing letter-H ∷ pushing letter-i ∷ pushing exclamation ∷ popping ∷ popping ∷ []) ≡ acceptance ∷ acceptance ∷ acceptance ∷ toPop (answer (pair 0xC8 0xE9)) ∷ toPop (answer (pair 0xA1 0x80)) ∷ [])
+    × (replies (replicate 64 (pushing letter-H) ++ (pushing letter-H ∷ pushing code.Nul ∷ counting ∷ [])) ≡ replicate 64 acceptance ++ (toPush (refused 7) ∷ acceptance ∷ toCount (answer 64) ∷ []))
+    × (replies (pushing italics ∷ popping ∷ popping ∷ []) ≡ acceptance ∷ toPop (answer (pair 0x20 0x80)) ∷ toPop (answer (pair 0x91 0xAE)) ∷ [])
 
 pub tried-by-hand : Tried (λ (cs : List Call). listReplies cs empty)
 unfolding ones onesIn writeCode onLine controlBytes inDomain queueable admit pairOf pop

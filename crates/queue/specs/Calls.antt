@@ -31,6 +31,10 @@ onRing popping q = (toPop (popRing q .0), popRing q .1)
 onRing counting q = (toCount (countRing q .0), countRing q .1)
 onRing resetting q = (toReset, freshRing)
 
+-- the reply to a push that is accepted
+abbrev pub acceptance : Reply
+acceptance = toPush (answer tt)
+
 -- the same call on the list
 abbrev pub onList : Call → Queued → Reply × Queued
 onList (pushing c) v = (toPush (push c v .0), push c v .1)

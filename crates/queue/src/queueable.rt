@@ -66,10 +66,8 @@ fn number_control(whose: u16, control: Control) -> Verdict
     match control {
         Control::MidRow(code) => Verdict::Passes(whose + bytes_number(code.bytes())),
         Control::Symbol(symbol) => Verdict::Passes(whose + bytes_number(symbol.bytes())),
-        Control::Command(command) => Verdict::Passes(
-            whose + bytes_number(Pair(0x14, 0x20 + command.number())),
-        ),
-        Control::Tab(tab) => Verdict::Passes(whose + bytes_number(Pair(0x17, 0x20 + tab.number()))),
+        Control::Command(command) => Verdict::Passes(whose + bytes_number(command.bytes())),
+        Control::Tab(tab) => Verdict::Passes(whose + bytes_number(tab.bytes())),
         Control::Preamble(preamble) => match preamble.bytes() {
             RowBytes::Are(bytes) => Verdict::Passes(whose + bytes_number(bytes)),
             RowBytes::NoSuchRow => Verdict::NoSuchRow,

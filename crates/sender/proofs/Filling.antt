@@ -14,7 +14,7 @@ use Rattle.code.specs.declared.pair.Pair.{Pair}
 use Rattle.sender.proofs.Refines.{sent-pair, sent-view}
 use Rattle.sender.specs.Drain.{bytesOfPairs, drainedPairs, filled, sendSenderTimes}
 use Rattle.sender.proofs.Steps.{step-is-the-send, stepIn}
-use Rattle.sender.specs.Parts.{filling, moved}
+use Rattle.sender.specs.ByParts.{filling, moved}
 use Rattle.sender.specs.Sender.{sendSender, view, wellFormed}
 use Rattle.sender.specs.Sending.{Sending, isIdle, send}
 use Rattle.sender.specs.declared.sender.Sender.{Sender}

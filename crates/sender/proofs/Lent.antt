@@ -10,7 +10,7 @@ use lib.ListN.{drop, length, take}
 use Rattle.code.proofs.LentPart.{lent-part, with-part}
 use Rattle.code.specs.Outcome.{Outcome, answer, refused}
 use Rattle.sender.specs.Drain.{drainSender, drained, drainedPairs}
-use Rattle.sender.specs.Parts.{filling, writingOutcome, senderAt}
+use Rattle.sender.specs.ByParts.{filling, writingOutcome, senderAt}
 use Rattle.sender.specs.Sender.{view, wellFormed}
 use Rattle.sender.specs.declared.drain.Writing.{Writing}
 use Rattle.sender.specs.declared.sender.Sender.{Sender}

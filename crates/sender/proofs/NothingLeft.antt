@@ -1,19 +1,20 @@
 -- A sender is idle by three tests: no code waits, none is held, nothing is owed. The ring's list is as long as its number
 -- of waiting codes, whatever state was handed in.
 -- Assumes nothing.
-use mathlib.Core.Bool.{Bool, true, false, _&&_}
+use mathlib.Core.Bool.{Bool, false, _&&_}
 use mathlib.Core.Path.{_≡_, refl, ap, ap₂, sym, _∙_}
 use Prim.Native.Nat.{ℕ, zero, suc, _+_}
 use native.Mathlib.Omega.{arith}
 use borrow.Author.Tests.{ne-eqb}
 use lib.Dec.{eqb}
 use lib.ListN.{length}
+use Rattle.code.proofs.Both.{both-fail}
 use Rattle.queue.proofs.Places.{how-many}
 use Rattle.queue.specs.Queue.{heldCodes}
 use Rattle.queue.specs.Ring.{heldIn}
 use Rattle.queue.specs.declared.ring.Held.{Held}
 use Rattle.queue.specs.declared.ring.Held.the-variants as held
-use Rattle.sender.specs.Parts.{noneHeld, nothingLeft}
+use Rattle.sender.specs.ByParts.{noneHeld, nothingLeft}
 use Rattle.sender.specs.Sender.{view}
 use Rattle.sender.specs.Sending.{isAbsent, isIdle, noneOwed}
 use Rattle.sender.specs.declared.sender.Owed.{Owed}
@@ -37,13 +38,9 @@ idle-by-parts s =
 pub some-wait : (n : ℕ) (h : Held) (r : Repeats) → (n ≡ 0 → ⊥) → nothingLeft n h r ≡ false
 some-wait n h r more = rw (ne-eqb n 0 more) refl
 
-none-of-both : (t : Bool) → (t && false) ≡ false
-none-of-both true = refl
-none-of-both false = refl
-
 pub a-code-is-held : (n : ℕ) (h : Held) (r : Repeats) (k : ℕ) → h ≡ held.Of k → nothingLeft n h r ≡ false
 a-code-is-held n h r k e =
-    ap (λ (x : Held). nothingLeft n x r) e ∙ ap (λ (t : Bool). t && noneOwed r) (none-of-both (eqb n 0))
+    ap (λ (x : Held). nothingLeft n x r) e ∙ ap (λ (t : Bool). t && noneOwed r) (both-fail (eqb n 0))
 
 pub no-code-left : (n : ℕ) (h : Held) (r : Repeats) (o : Owed) → n ≡ 0 → h ≡ held.Absent → r .owed ≡ o → nothingLeft n h r ≡ isAbsent o
 no-code-left n h r o none absent owed =

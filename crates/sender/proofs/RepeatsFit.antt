@@ -5,7 +5,7 @@
 use mathlib.Core.Bool.{Bool, true, false, _&&_}
 use mathlib.Core.Path.{_≡_, refl, ap, sym, _∙_}
 use Prim.Native.Nat.{ℕ}
-use Rattle.code.proofs.Both.{both-left, both-right}
+use Rattle.code.proofs.Both.{both-fail, both-left, both-right}
 use Rattle.code.specs.Outcome.{Outcome}
 use Rattle.code.specs.Read.{isCommandPair, isOddPair}
 use Rattle.code.specs.declared.code.Code.{Code}
@@ -23,10 +23,6 @@ use Rattle.sender.specs.declared.sender.Sender.{Sender}
 queue-fails : (s : Sender) → queue.wellFormed (s .queue) ≡ false → wellFormed s ≡ false
 unfolding wellFormed
 queue-fails s e = rw e refl
-
-both-fail : (t : Bool) → (t && false) ≡ false
-both-fail true = refl
-both-fail false = refl
 
 pub repeats-fail : (s : Sender) → repeatsFit (s .repeats) ≡ false → wellFormed s ≡ false
 unfolding wellFormed

@@ -17,7 +17,7 @@ use Rattle.queue.specs.Ring as queue
 use Rattle.queue.specs.Turn.{freeing}
 use Rattle.queue.specs.declared.ring.Queue.{Queue}
 use Rattle.sender.proofs.Refines.{queue-formed, sent-as}
-use Rattle.sender.specs.Parts.{moved, stepBy, stepOf}
+use Rattle.sender.specs.ByParts.{moved, stepBy, stepOf}
 use Rattle.sender.specs.Sender.{queueAfter, sendSender, sender, view, wellFormed}
 use Rattle.sender.specs.Sending.{Source, ahead, noRepeat, pops, repeatsAfter, send, sendFrom, source}
 use Rattle.sender.specs.declared.send.Step.{Step}

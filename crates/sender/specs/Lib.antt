@@ -1,7 +1,7 @@
 pub mod Sending
 pub mod Sender
 pub mod Drain
-pub mod Parts
+pub mod ByParts
 pub mod SendsLeft
 pub mod Calls
 pub mod Replies

@@ -2,7 +2,7 @@
 ghost use mathlib.Core.Bool.{true};
 ghost use mathlib.Core.Path.{_≡_};
 ghost use Rattle.sender.specs.Drain.{drainOutcome, drainSender};
-ghost use Rattle.sender.specs.Parts.{filling, writingOutcome, senderAt};
+ghost use Rattle.sender.specs.ByParts.{filling, writingOutcome, senderAt};
 ghost use Rattle.sender.specs.Sender.{wellFormed};
 use crate::idle::has_nothing;
 use crate::send::step_of;

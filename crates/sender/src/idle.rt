@@ -1,6 +1,6 @@
 // Whether the sender has anything left to send.
 ghost use mathlib.Core.Path.{_≡_};
-ghost use Rattle.sender.specs.Parts.{nothingLeft};
+ghost use Rattle.sender.specs.ByParts.{nothingLeft};
 ghost use Rattle.sender.specs.Sender.{idleOutcome, idleSender};
 use crate::sender::Owed;
 use crate::sender::Repeats;

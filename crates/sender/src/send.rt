@@ -1,7 +1,7 @@
 // Sending the next pair: a repeat that is owed, else a pair of the queue.
 ghost use mathlib.Core.Path.{_≡_};
 ghost use Prim.Native.Nat.{_≤_, _<_};
-ghost use Rattle.sender.specs.Parts.{moved, stepOf};
+ghost use Rattle.sender.specs.ByParts.{moved, stepOf};
 ghost use Rattle.sender.specs.Sender.{sendOutcome, sendSender};
 ghost use Rattle.sender.specs.Sending.{repeatsAfter};
 use crate::sender::Owed;

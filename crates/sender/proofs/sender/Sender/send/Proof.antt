@@ -10,7 +10,7 @@ use Rattle.code.specs.declared.pair.Pair.{Pair}
 use Rattle.queue.proofs.WellFormed.{formed}
 use Rattle.sender.proofs.Refines.{ill-formed-send, queue-formed}
 use Rattle.sender.proofs.Steps.{step-found, step-frees-waiting, step-is-the-send, stepIn}
-use Rattle.sender.specs.Parts.{moved}
+use Rattle.sender.specs.ByParts.{moved}
 use Rattle.sender.specs.Sender.{wellFormed}
 use Rattle.sender.specs.declared.send.Step.{Step}
 use Rattle.sender.specs.declared.sender.Sender.{Sender}

@@ -14,7 +14,7 @@ use Rattle.sender.proofs.Filling.{begun, comesTo, done-at-limit, done-w
 use Rattle.sender.proofs.NothingLeft.{idle-by-parts}
 use Rattle.sender.proofs.Refines.{queue-formed, sent-formed}
 use Rattle.sender.proofs.Steps.{step-found, step-frees-waiting, step-is-the-send, stepIn}
-use Rattle.sender.specs.Parts.{filling, moved, senderOf}
+use Rattle.sender.specs.ByParts.{filling, moved, senderOf}
 use Rattle.sender.specs.Sender.{view, wellFormed}
 use Rattle.sender.specs.Sending.{isIdle}
 use Rattle.sender.specs.declared.send.Step.{Step}
