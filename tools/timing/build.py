@@ -1,4 +1,4 @@
-"""Builds what is timed, ours and the crate's, for this machine's kind of processor, neither for its model.
+"""Builds what is timed, ours and the crate's, for this machine's kind of processor, and not for its model.
 
 Ours is proved by rt, which builds it for x86-64 alone. Here the same sources are compiled without a proof: of the program
 behind `rt try` the module is kept that it hands to the compiler, and compiled once more. Only times are taken from it."""
@@ -41,6 +41,13 @@ def keeping(toolchain, module):
     write(folder / "bin/clang", KEEPS.format(module=module, clang=toolchain / "bin/clang"))
     (folder / "bin/clang").chmod(0o755)
     return folder
+
+
+def sourced(name, parts):
+    """The source of a program, of its parts in their order."""
+    source = BUILT / f"{name}.rattle"
+    write(source, "\n".join(part.read_text() for part in parts))
+    return source
 
 
 def build_ours(name, main, libraries):
