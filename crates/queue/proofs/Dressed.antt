@@ -117,7 +117,7 @@ pub text-is-refused : listReplies (pushing (unknown channelOne 0x41 0x42) ∷ po
 unfolding ones onesIn writeCode inDomain queueable admit pairOf pop
 text-is-refused = refl
 
--- on either channel 0F and 20 are refused, and 10 and 1F acceptance
+-- on either channel 0F and 20 are refused, and 10 and 1F accepted
 abbrev alone : Channel → ℕ → List Reply
 alone ch a = listReplies (pushing (unknown ch a 0x41) ∷ popping ∷ []) empty
 

@@ -12,17 +12,17 @@ use Rattle.queue.proofs.Ways.{Way, held-code, nothing-inside, last-code
 use Rattle.queue.specs.Progress.{popTimes, work}
 use Rattle.queue.specs.Queue.{Pop, Queued, count, pop, popHeld, queued}
 
-less : {v : Queued} {p : Pop} → Way v p → 0 < count v → work (p .next) < work v
-less (held-code c l) more = omega arith
-less nothing-inside more = omega arith
-less (last-code x e) more = omega arith
-less (two-codes x y l e next) more = omega arith
-less (before-command x y l e next) more = omega arith
-less (space-first x l e wants) more = omega arith
-less (command-goes x l e wants) more = omega arith
+work-falls : {v : Queued} {p : Pop} → Way v p → 0 < count v → work (p .next) < work v
+work-falls (held-code c l) more = omega arith
+work-falls nothing-inside more = omega arith
+work-falls (last-code x e) more = omega arith
+work-falls (two-codes x y l e next) more = omega arith
+work-falls (before-command x y l e next) more = omega arith
+work-falls (space-first x l e wants) more = omega arith
+work-falls (command-goes x l e wants) more = omega arith
 
 pub pop-makes-progress : (v : Queued) → 0 < count v → work (pop v .next) < work v
-pop-makes-progress v more = less (way-of v) more
+pop-makes-progress v more = work-falls (way-of v) more
 
 empty-stays : (v : Queued) → count v ≡ 0 → count (pop v .next) ≡ 0
 unfolding pop

@@ -1,5 +1,5 @@
--- The seven ways of a pop, by what waits and what is held. The cases of its definition are gone through here, once; a law of
--- every pop is by these.
+-- The seven ways of a pop, by what waits and what is held. The cases of its definition are gone through here, once, for every
+-- law of the list's pop that needs them.
 -- Assumes nothing.
 use mathlib.Core.Bool.{Bool, true, false, cond}
 use mathlib.Core.List.{List, [], _∷_}

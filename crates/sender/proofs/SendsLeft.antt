@@ -109,7 +109,7 @@ module _ (s : Sending) (idle : isIdle s ≡ true) where
   empty-queue : s .queue ≡ empty
   empty-queue = nothing-waits (s .queue .waiting) (s .queue .held) (both-left (eqb (count (s .queue)) 0) (noneOwed (s .repeats)) idle)
 
-  none-owed : s .repeats .owed ≡ owed.Absent
+  pub none-owed : s .repeats .owed ≡ owed.Absent
   none-owed = nothing-owed (s .repeats .owed) (both-right (eqb (count (s .queue)) 0) (noneOwed (s .repeats)) idle)
 
   pub idle-has-none-left : sendsLeft s ≡ 0
