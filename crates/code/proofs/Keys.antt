@@ -9,7 +9,7 @@ abbrev pub NoKey : ℕ → ℕ → Type 0
 NoKey n zero = Unit
 NoKey n (suc k) = NoKey n k × (n ≡ k → ⊥)
 
-pub past-keys : (n k : ℕ) → NoKey n k → k ≤ n
+past-keys : (n k : ℕ) → NoKey n k → k ≤ n
 past-keys n zero h = zero-le
 past-keys n (suc k) h = let below : k ≤ n = past-keys n k (h .0) in let other : n ≡ k → ⊥ = h .1 in omega arith
 

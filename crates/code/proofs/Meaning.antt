@@ -69,7 +69,7 @@ pub in-row-two : (b : ℕ) → b < 256 → eqb (b / 16) 2 ≡ namesField b
 in-row-two b less = agree (λ (x : ℕ). eqb (x / 16) 2) namesField 256 refl b less
 
 -- the remainder drops the channel bit
-pub without-channel : (a : ℕ) → 16 ≤ a → a < 32 → a % 8 + 16 ≡ withoutChannel a
+without-channel : (a : ℕ) → 16 ≤ a → a < 32 → a % 8 + 16 ≡ withoutChannel a
 without-channel a from below = agree-from (λ (x : ℕ). x % 8 + 16) withoutChannel 16 16 refl a from below
 
 -- taking the field away keeps the first byte between 10 and 17

@@ -72,7 +72,7 @@ symbol-row-back French = (lit< tt, refl)
 symbol-row-back Portuguese = (lit< tt, refl)
 symbol-row-back German = (lit< tt, refl)
 
-pub color-back : (c : color.Color) → Back colorAt colorNumber 7 c
+color-back : (c : color.Color) → Back colorAt colorNumber 7 c
 color-back White = (lit< tt, refl)
 color-back Green = (lit< tt, refl)
 color-back Blue = (lit< tt, refl)

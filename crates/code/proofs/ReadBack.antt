@@ -42,7 +42,7 @@ use Rattle.code.specs.declared.preamble.PreambleAddressCode.{PreambleAdd
 use Rattle.code.specs.declared.symbol.Symbol.{Symbol}
 
 -- seven bits of data stay
-pub small-stays : (b : ℕ) → b < 128 → stripped b ≡ b
+small-stays : (b : ℕ) → b < 128 → stripped b ≡ b
 small-stays b less = omega arith
 
 -- the channel is taken off again

@@ -33,7 +33,7 @@ kept-is : (b : ℕ) → b < 256 → kept b ≡ b
 unfolding kept ones onesIn
 kept-is b less = agree kept (λ (x : ℕ). x) 256 refl b less
 
-pub parity-back : (b : ℕ) → b < 256 → isOdd b ≡ true → withParity (stripped b) ≡ b
+parity-back : (b : ℕ) → b < 256 → isOdd b ≡ true → withParity (stripped b) ≡ b
 unfolding kept
 parity-back b less odd = sym (rw odd) ∙ kept-is b less
 
@@ -63,7 +63,7 @@ again true a b la lb e =
     ap (λ (o : Outcome (Pair × ℕ)). together o (writeCode code.Nul)) (command-again a b (h .0) (h .1) lb)
 again false a b la lb e = rw (single-again a la, single-again b lb)
 
-pub stripped-again : (a b : ℕ) → a < 128 → b < 128 → writeTwo (codesOfBytes a b .0) (codesOfBytes a b .1) ≡ answer (pair (withParity a) (withParity b))
+stripped-again : (a b : ℕ) → a < 128 → b < 128 → writeTwo (codesOfBytes a b .0) (codesOfBytes a b .1) ≡ answer (pair (withParity a) (withParity b))
 stripped-again a b la lb = again (isCommand a) a b la lb refl
 
 -- what was read is written again

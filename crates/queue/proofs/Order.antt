@@ -30,7 +30,7 @@ pub pop-takes-from-the-front : (v : Queued) → inside v ≡ pop v .took ++ insi
 pop-takes-from-the-front v = takes-front (way-of v)
 
 -- a stored code is not NUL, and what is accepted without being stored is
-pub stored-is-not-nul : (c : Code) (n : ℕ) → admit c n ≡ answer true → isNul c ≡ false
+stored-is-not-nul : (c : Code) (n : ℕ) → admit c n ≡ answer true → isNul c ≡ false
 stored-is-not-nul c n e = not-true (isNul c) (both-left (not (isNul c)) (isQueueable c) (stored-may-wait c n e))
 
 passed : (nul : Bool) (o : Outcome Unit) (full : Bool) → admitBy nul o full ≡ answer false → nul ≡ true
@@ -39,7 +39,7 @@ passed false (answer u) true e = let z : _≡_ {A = ℕ} 0 1 = cc in absurd (ome
 passed false (answer u) false e = let z : _≡_ {A = ℕ} 0 1 = cc in absurd (omega arith)
 passed false (refused k) full e = let z : _≡_ {A = ℕ} 0 1 = cc in absurd (omega arith)
 
-pub passed-is-nul : (c : Code) (n : ℕ) → admit c n ≡ answer false → isNul c ≡ true
+passed-is-nul : (c : Code) (n : ℕ) → admit c n ≡ answer false → isNul c ≡ true
 unfolding admit
 passed-is-nul c n e = passed (isNul c) (queueable c) (isFull n) e
 

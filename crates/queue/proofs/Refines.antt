@@ -139,7 +139,7 @@ holds-last numbers (space-first x l e wants) stand =
     holds-at numbers x (suc (length l) - length l - 1) 0 (omega arith) (stand 0 (omega arith))
 holds-last numbers (command-goes x l e wants) stand = refl
 
-pub pop-keeps-the-number : (q : Queue) → heldIn (leftIn q .held) ≡ pop (view q) .next .held
+pop-keeps-the-number : (q : Queue) → heldIn (leftIn q .held) ≡ pop (view q) .next .held
 pop-keeps-the-number q =
     holds-last (λ (k : ℕ). numberAt (q .places) (q .start + k)) (way-of (view q))
     (λ (i : ℕ) (less : i < length (waitingIn q)). code-at (q .places) (q .start) (q .waiting) i (omega (arith, less, how-many (q .places) (q .start) (q .waiting))))

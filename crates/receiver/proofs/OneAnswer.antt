@@ -8,7 +8,7 @@ use Rattle.receiver.specs.Heard.{heardOutcome}
 use Rattle.receiver.specs.Receiver.{decodedOutcome, Stepped}
 use Rattle.receiver.specs.declared.heard.Heard.the-variants as heard
 
-pub heard-injective : Injective heardOutcome
+heard-injective : Injective heardOutcome
 heard-injective (heard.Event a) (heard.Event b) e = cc
 heard-injective (heard.Event a) heard.Nothing e = let z : _≡_ {A = ℕ} 0 1 = cc in absurd (omega arith)
 heard-injective (heard.Event a) heard.InvalidParity e = absurd (clash e)

@@ -43,7 +43,7 @@ use Rattle.receiver.specs.declared.state.LastChannel.the-variants as cha
 use Rattle.receiver.specs.declared.state.LastPair.the-variants as last
 
 -- a control code alone, with NUL after it, is written as its pair
-pub nul-written : writeCode code.Nul ≡ asSingle 0
+nul-written : writeCode code.Nul ≡ asSingle 0
 unfolding writeCode
 nul-written = refl
 

@@ -55,7 +55,7 @@ pub once-where-no-repeat : (s : Cea608State) (p : Pair) (c : ControlCode) → Is
 once-where-no-repeat s p c h other = step-command (forgotten s) p c h ∙ sym (command-acts s p c h other)
 
 -- a pair that cannot be read is refused by the reading's number
-pub unread-is-refused : (s : Cea608State) (p : Pair) (n : ℕ) → readPair (p .0) (p .1) ≡ refused n → step s p ≡ (refused n, s)
+unread-is-refused : (s : Cea608State) (p : Pair) (n : ℕ) → readPair (p .0) (p .1) ≡ refused n → step s p ≡ (refused n, s)
 unfolding step
 unread-is-refused s p n h = ap (afterReading s p) h
 
@@ -95,7 +95,7 @@ module _ (s : Cea608State) (p : Pair) (n : ℕ) where
       codes-are-answered (codes .0) (codes .1) (sym (ap (λ (o : Outcome (Code × Code)). afterReading s p o .0) (odd-is-read (p .0) (p .1) odd)) ∙ e)
 
 -- what is no command is text, whatever the last pair was
-pub no-command : (s : Cea608State) (p : Pair) (x y : Code) → ((c : ControlCode) → x ≡ code.Control c → ⊥) → heardCodes s p x y ≡ heardText s p x y
+no-command : (s : Cea608State) (p : Pair) (x y : Code) → ((c : ControlCode) → x ≡ code.Control c → ⊥) → heardCodes s p x y ≡ heardText s p x y
 no-command s p (code.Control c) y h = absurd (h c refl)
 no-command s p code.Nul y h = refl
 no-command s p (code.Letter l) y h = refl

@@ -38,7 +38,7 @@ use Rattle.receiver.specs.declared.state.LastChannel.the-variants as cha
 use Rattle.receiver.specs.declared.state.LastPair.the-variants as last
 
 -- the code of a character, or NUL for none, has that character
-pub has-its-character : (k : Character) (ch : Channel) (x : Code) → characterCode k ch ≡ answer x → charOf x ≡ k
+has-its-character : (k : Character) (ch : Channel) (x : Code) → characterCode k ch ≡ answer x → charOf x ≡ k
 unfolding charOf
 has-its-character (character.Point c) ch x e = a-characters-code-has-it c ch x e
 has-its-character character.Absent ch x e = ap charOf (sym (same e))
