@@ -1,4 +1,4 @@
-"""The made input of the timing: 16,383 pairs each, since two bytes of 32,768 say what is called."""
+"""The made input of the timing. That of calls has 16,383 pairs each, since two bytes of 32,768 say what is called."""
 
 PAIRS = 16_383
 
@@ -56,3 +56,28 @@ def english():
 
 def every_character():
     return characters(STANDARD + SYMBOLS)
+
+
+def letters(text):
+    """Two to a pair, with filler where one is left."""
+    return [(text[i], text[i + 1] if i + 1 < len(text) else 0) for i in range(0, len(text), 2)]
+
+
+def ending(start, contents):
+    return (0x0F, -(sum(start) + sum(contents) + 0x0F) % 128)
+
+
+def packet(start, contents):
+    return [start, *letters(contents), ending(start, contents)]
+
+
+def packets(count):
+    """So many pairs of field two: a programme's title in two parts around a roll-up caption, and the network, the station and the
+    time after it, over and over."""
+    title, first, second = (0x01, 0x03), b"The Six O'Clock ", b"Evening News"
+    command = [(0x15, 0x25), (0x15, 0x25), (0x15, 0x2D), (0x15, 0x2D), (0x14, 0x70), (0x14, 0x70)]
+    pairs = [title, *letters(first), *command, *letters(TEXT[:32])]
+    pairs += [(0x02, 0x03), *letters(second), ending(title, first + second)]
+    pairs += packet((0x05, 0x01), b"Public Network") + packet((0x05, 0x02), b"KQXR") + packet((0x07, 0x01), b"^@KJCF")
+    made = bytes(with_parity(byte) for pair in pairs for byte in pair)
+    return (made * (2 * count // len(made) + 1))[: 2 * count]

@@ -50,7 +50,7 @@ open-says l input e = ap (λ (t : Bool). pending (l .line) ++ cond t [] (listFro
 none-waits : (l : Line) → waiting l ≡ 0 → pending l ≡ []
 none-waits l e = ap (bytesFrom (l .bytes) (l .at)) e
 
-one-more : (q : ℕ) → q ≤ mostPairs → oneMore q ≡ q + 1
+pub one-more : (q : ℕ) → q ≤ mostPairs → oneMore q ≡ q + 1
 one-more q few = rw (le-leb q mostPairs few) refl
 
 -- a refusal counts as one
@@ -265,7 +265,7 @@ unfolding listing
 began-kept bytes = record { sound = λ (on : false ≡ false). fresh-open; text = refl }
 
 -- bytes taken of those offered are taken of all that are left
-offered-first : (taken n : ℕ) (xs : List ℕ) → taken ≤ length (take n xs) → drop taken (take n xs) ++ drop n xs ≡ drop taken xs
+pub offered-first : (taken n : ℕ) (xs : List ℕ) → taken ≤ length (take n xs) → drop taken (take n xs) ++ drop n xs ≡ drop taken xs
 offered-first zero n xs few = take-append-drop n xs
 offered-first (suc k) zero xs few = absurd (omega (arith, few))
 offered-first (suc k) (suc n) [] few = absurd (omega (arith, few))

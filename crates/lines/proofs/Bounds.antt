@@ -43,7 +43,7 @@ not-reached : (p : ℕ) (ps : List ℕ) (n : ℕ) → n < p → length (atPlaces
 not-reached p ps n less = rw (lt-leb p n less) (places-short ps n)
 
 -- a number has at most ten digits, and one below a hundred millions at most eight
-decimal-short : (n : ℕ) → length (decimal n) ≤ 10
+pub decimal-short : (n : ℕ) → length (decimal n) ≤ 10
 unfolding decimal
 decimal-short n = places-short (1000000000 ∷ 100000000 ∷ 10000000 ∷ 1000000 ∷ 100000 ∷ 10000 ∷ 1000 ∷ 100 ∷ 10 ∷ []) n
 

@@ -22,7 +22,7 @@ pub data Put (s : Placed) (bytes : List ℕ) (next : Placed) : Type 0 where
 pub chain : {s next : Placed} {bytes : List ℕ} → Put s bytes next → next ≡ putAll s bytes
 chain (is e) = e
 
-put-parts : (s : Placed) (xs ys : List ℕ) → putAll s (xs ++ ys) ≡ putAll (putAll s xs) ys
+pub put-parts : (s : Placed) (xs ys : List ℕ) → putAll s (xs ++ ys) ≡ putAll (putAll s xs) ys
 put-parts s [] ys = refl
 put-parts s (x ∷ xs) ys = put-parts (putOne s x) xs ys
 

@@ -16,7 +16,7 @@ use receiver::Cea608State;
 use receiver::Heard;
 
 // A stream has at most so many pairs; one byte more is refused 10.
-pub(crate) const MOST_PAIRS: u32 = 16_777_216;
+pub const MOST_PAIRS: u32 = 16_777_216;
 
 // The first byte of a pair whose second has not come.
 pub enum Half {
@@ -41,14 +41,14 @@ pub struct Progress {
     pub listing: Listing,
 }
 
-// One refusal more. There is at most one beyond the limit of pairs.
-pub(crate) fn one_more(refused: u32) -> u32
-    ensures { λ r. ⌜ r ≡ oneMore refused ⌝ }
+// One more in a count. Refusals come to at most one beyond the limit of pairs, and packets to no more than the pairs.
+pub fn one_more(count: u32) -> u32
+    ensures { λ r. ⌜ r ≡ oneMore count ⌝ }
 {
-    if refused <= MOST_PAIRS {
-        return refused + 1;
+    if count <= MOST_PAIRS {
+        return count + 1;
     }
-    refused
+    count
 }
 
 // The refusals with that of a pair, if it was refused.

@@ -7,7 +7,8 @@ ghost use lib.ListN.{length};
 ghost use Rattle.lines.specs.Put.{putAll, putOne};
 ghost use Rattle.lines.specs.Words.{atPlace, decimal, hexDigit, upToFour};
 
-pub(crate) fn put(out: &mut [u8], at: usize, byte: u8) -> usize
+// A byte.
+pub fn put(out: &mut [u8], at: usize, byte: u8) -> usize
     ensures { λ r. ⌜ (r, now (out .exit)) ≡ putOne (at, now (out .entry)) byte ⌝ }
 {
     if out.len() <= at {
@@ -17,7 +18,8 @@ pub(crate) fn put(out: &mut [u8], at: usize, byte: u8) -> usize
     at + 1
 }
 
-pub(crate) fn put_word(out: &mut [u8], at: usize, word: &[u8]) -> usize
+// The bytes of a word.
+pub fn put_word(out: &mut [u8], at: usize, word: &[u8]) -> usize
     ensures { λ r. ⌜ (r, now (out .exit)) ≡ putAll (at, now (out .entry)) (now (word .entry)) ⌝ }
 {
     let mut next = at;
@@ -40,7 +42,8 @@ pub(crate) fn put_place(out: &mut [u8], at: usize, place: u32, number: u32) -> u
     put(out, at, 0x30 + (number / place % 10) as u8)
 }
 
-pub(crate) fn put_decimal(out: &mut [u8], at: usize, number: u32) -> usize
+// A number in decimal digits.
+pub fn put_decimal(out: &mut [u8], at: usize, number: u32) -> usize
     ensures { λ r. ⌜ (r, now (out .exit)) ≡ putAll (at, now (out .entry)) (decimal number) ⌝ }
 {
     let p9 = put_place(out, at, 1_000_000_000, number);
@@ -118,7 +121,7 @@ pub(crate) fn put_number(out: &mut [u8], at: usize, number: u32) -> usize
 }
 
 // With capitals.
-pub(crate) fn hex_digit(digit: u8) -> u8
+pub fn hex_digit(digit: u8) -> u8
     ensures { λ r. ⌜ r ≡ hexDigit (digit % 16) ⌝ }
 {
     let low = digit % 16;

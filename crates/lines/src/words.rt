@@ -168,7 +168,7 @@ pub(crate) fn put_event_line(out: &mut [u8], at: usize, number: u32, event: Cea6
 }
 
 // The line of a refusal at the pair with this number.
-pub(crate) fn put_refused_line(out: &mut [u8], at: usize, number: u32, refusal: u32) -> usize
+pub fn put_refused_line(out: &mut [u8], at: usize, number: u32, refusal: u32) -> usize
     ensures { λ r. ⌜ (r, now (out .exit)) ≡ putAll (at, now (out .entry)) (line number (refusedWords refusal)) ⌝ }
 {
     let numbered = put_decimal(out, at, number);

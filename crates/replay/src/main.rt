@@ -2,6 +2,7 @@
 mod code_query;
 mod event_bytes;
 mod event_query;
+mod extended_query;
 mod from_bytes;
 mod query;
 mod queue_query;

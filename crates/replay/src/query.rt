@@ -1,6 +1,8 @@
 // Which layer a query asks, and what is kept from one query to the next.
 use crate::code_query;
 use crate::event_query;
+use crate::extended_query;
+use crate::extended_query::Kept;
 use crate::queue_query;
 use crate::receiver_query;
 use crate::sender_query;
@@ -13,6 +15,7 @@ use sender::Sender;
 pub(crate) struct State {
     pub receiver: Cea608State,
     pub sender: Sender,
+    pub extended: Kept,
 }
 
 // An answer, and the state for the next query.
@@ -26,6 +29,7 @@ pub(crate) fn fresh() -> State {
     State {
         receiver: Cea608State::new(),
         sender: Sender::new(),
+        extended: extended_query::fresh(),
     }
 }
 
@@ -46,6 +50,9 @@ pub(crate) fn answer(asked: [u8; 16], state: State) -> Answered {
     if receiver_query::asks_receiver(kind) {
         return ask_receiver(asked, state);
     }
+    if extended_query::asks_extended(kind) {
+        return ask_extended(asked, state);
+    }
     if kind < 0x20 {
         return Answered {
             bytes: code_query::answer(asked),
@@ -59,18 +66,18 @@ pub(crate) fn answer(asked: [u8; 16], state: State) -> Answered {
 }
 
 fn ask_queue(asked: [u8; 16], state: State) -> Answered {
-    let receiver = state.receiver;
     let sender = state.sender;
-    with_sender(sender_query::answer_by_queue(sender, asked), receiver)
+    with_sender(sender_query::answer_by_queue(sender, asked), state)
 }
 
 fn ask_sender(asked: [u8; 16], state: State) -> Answered {
-    let receiver = state.receiver;
     let sender = state.sender;
-    with_sender(sender_query::answer(sender, asked), receiver)
+    with_sender(sender_query::answer(sender, asked), state)
 }
 
-fn with_sender(answered: SenderAnswered, receiver: Cea608State) -> Answered {
+fn with_sender(answered: SenderAnswered, state: State) -> Answered {
+    let receiver = state.receiver;
+    let extended = state.extended;
     let bytes = answered.answer;
     let next = answered.sender;
     Answered {
@@ -78,6 +85,7 @@ fn with_sender(answered: SenderAnswered, receiver: Cea608State) -> Answered {
         state: State {
             receiver: receiver,
             sender: next,
+            extended: extended,
         },
     }
 }
@@ -85,6 +93,7 @@ fn with_sender(answered: SenderAnswered, receiver: Cea608State) -> Answered {
 fn ask_receiver(asked: [u8; 16], state: State) -> Answered {
     let receiver = state.receiver;
     let sender = state.sender;
+    let extended = state.extended;
     let answered = receiver_query::answer(receiver, asked);
     let bytes = answered.answer;
     let next = answered.receiver;
@@ -93,6 +102,24 @@ fn ask_receiver(asked: [u8; 16], state: State) -> Answered {
         state: State {
             receiver: next,
             sender: sender,
+            extended: extended,
+        },
+    }
+}
+
+fn ask_extended(asked: [u8; 16], state: State) -> Answered {
+    let receiver = state.receiver;
+    let sender = state.sender;
+    let extended = state.extended;
+    let answered = extended_query::answer(extended, asked);
+    let bytes = answered.answer;
+    let next = answered.kept;
+    Answered {
+        bytes: bytes,
+        state: State {
+            receiver: receiver,
+            sender: sender,
+            extended: next,
         },
     }
 }

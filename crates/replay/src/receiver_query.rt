@@ -56,7 +56,7 @@ fn heard_bytes(heard: Heard) -> [u8; 16] {
     }
 }
 
-fn field_number(field: LastField) -> u8 {
+pub(crate) fn field_number(field: LastField) -> u8 {
     match field {
         LastField::Known(f) => f.id(),
         LastField::Absent => 0,

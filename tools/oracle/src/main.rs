@@ -1,13 +1,17 @@
-//! The oracle: what the crate cea608-types says to the queries of docs/TESTING.md.
+//! The oracle: what the crate cea608-types says to the queries of docs/TESTING.md, and of extended data, which the crate
+//! does not read, a model that is written from the specification.
 //!
 //!     oracle sets                          the names of the sets
 //!     oracle make SET QUERIES ANSWERS      writes a set's queries and the crate's answers
 //!     oracle compare QUERIES ANSWERS GOT   compares what `replay` wrote with the crate's answers
 //!
-//! And streams of pairs with the listing's text of each, made of the crate's events:
+//! And streams of pairs with the text that a program must write of each: `listing`, made of the crate's events, or `packets`,
+//! made by the model of extended data:
 //!
-//!     oracle streams                       the names of the sets of streams
+//!     oracle streams                       the names of the sets of streams, each with its program
 //!     oracle streams SET FOLDER            writes a set's streams and the text of each
+//!     oracle packets                       the text of `packets` of the stream on standard input
+//!     oracle captions                      the caption text in it, by the same model
 //!
 //! A set that is chosen at random is made from a seed, which is printed; SEED names another one.
 //! A layer above adds its queries and sets in a module of its own, and the sets to `SETS`.
@@ -18,10 +22,17 @@ mod code;
 mod code_sets;
 mod differences;
 mod event;
+mod extended;
+mod extended_feed;
+mod extended_met;
+mod extended_query;
+mod extended_sets;
 mod line;
 mod listing;
 mod names;
 mod number;
+mod packet_lines;
+mod packet_streams;
 mod padding;
 mod panics;
 mod queue;
@@ -37,19 +48,22 @@ mod streams;
 mod transcript;
 mod tried_by_hand;
 mod values;
+mod zvbi;
 
 use random::Fill::{self, FromSeed, Whole};
 use random::{Random, SEED};
 use std::fs::{read, write};
+use std::io::{stdin, stdout, Read, Write};
 use std::process::exit;
+use streams::Streams;
 use transcript::Transcript;
 
 const USAGE: &str = "usage: oracle sets | make SET QUERIES ANSWERS | compare QUERIES ANSWERS GOT \
-    | streams [SET FOLDER]";
+    | streams [SET FOLDER] | packets | captions";
 
 type Asks = Fill<fn(&mut Transcript), fn(&mut Transcript, &mut Random)>;
 
-const SETS: [(&str, Asks); 16] = [
+const SETS: [(&str, Asks); 18] = [
     ("sample", Whole(sample::sample)),
     ("pairs", Whole(code_sets::pairs)),
     ("singles", Whole(code_sets::singles)),
@@ -66,6 +80,8 @@ const SETS: [(&str, Asks); 16] = [
     ("sender", FromSeed(sender_sets::calls)),
     ("sender_ill_formed", FromSeed(sender_sets::ill_formed)),
     ("agreement", FromSeed(agreement::sessions)),
+    ("extended", FromSeed(extended_sets::streams)),
+    ("extended_pairs", Whole(extended_sets::pairs)),
 ];
 
 fn main() {
@@ -78,6 +94,8 @@ fn main() {
         ["compare", queries, answers, got] => compare(queries, answers, got),
         ["streams"] => list_streams(),
         ["streams", set, folder] => make_streams(set, folder),
+        ["packets"] => say_of_stream(packet_lines::text),
+        ["captions"] => say_of_stream(packet_lines::captions),
         _ => Err(USAGE.into()),
     };
     if let Err(text) = done {
@@ -128,9 +146,31 @@ fn compare(queries: &str, answers: &str, got: &str) -> Result<(), String> {
     Ok(())
 }
 
+/// A program that lists streams: its sets, and the text that it must write of a stream.
+struct Program {
+    name: &'static str,
+    sets: &'static [(&'static str, Streams)],
+    text: fn(&[u8]) -> Vec<u8>,
+}
+
+const PROGRAMS: [Program; 2] = [
+    Program {
+        name: "listing",
+        sets: &streams::SETS,
+        text: streams::text,
+    },
+    Program {
+        name: "packets",
+        sets: &packet_streams::SETS,
+        text: packet_lines::text,
+    },
+];
+
 fn list_streams() -> Result<(), String> {
-    for (name, _) in streams::SETS {
-        println!("{name}");
+    for program in PROGRAMS {
+        for (name, _) in program.sets {
+            println!("{name} {}", program.name);
+        }
     }
     Ok(())
 }
@@ -138,9 +178,16 @@ fn list_streams() -> Result<(), String> {
 /// A stream's bytes and its text have the same name but for what follows the dot.
 fn make_streams(set: &str, folder: &str) -> Result<(), String> {
     streams::assert_worked_case();
-    let (_, fill) = streams::SETS
+    packet_streams::assert_worked_cases();
+    let (fill, text) = PROGRAMS
         .iter()
-        .find(|(name, _)| *name == set)
+        .flat_map(|program| {
+            program
+                .sets
+                .iter()
+                .map(|(name, fill)| (name, fill, program.text))
+        })
+        .find_map(|(name, fill, text)| (*name == set).then_some((fill, text)))
         .ok_or_else(|| format!("there is no set of streams {set}"))?;
     let streams = match fill {
         Whole(fill) => fill(),
@@ -152,12 +199,17 @@ fn make_streams(set: &str, folder: &str) -> Result<(), String> {
     };
     for (number, stream) in streams.iter().enumerate() {
         save(&format!("{folder}/{number:04}.pairs"), stream)?;
-        save(
-            &format!("{folder}/{number:04}.text"),
-            &streams::text(stream),
-        )?;
+        save(&format!("{folder}/{number:04}.text"), &text(stream))?;
     }
     Ok(())
+}
+
+fn say_of_stream(said: fn(&[u8]) -> Vec<u8>) -> Result<(), String> {
+    let mut stream = vec![];
+    stdin()
+        .read_to_end(&mut stream)
+        .and_then(|_| stdout().write_all(&said(&stream)))
+        .map_err(|error| error.to_string())
 }
 
 fn load(path: &str) -> Result<Vec<u8>, String> {

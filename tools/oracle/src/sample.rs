@@ -10,6 +10,7 @@ use crate::event::{
     ask_of_event, codes_of_numbers, commands, control_event, id_of_field_and_channel, id_of_value,
     mode, mode_of_command, parts, text, without_code,
 };
+use crate::extended_sets;
 use crate::names::{COLOURS, COMMANDS, LETTERS, MID_ROW_COLOURS, MODES, STYLES, SYMBOLS, TABS};
 use crate::queue_sets;
 use crate::random::{Random, SEED};
@@ -49,6 +50,7 @@ pub fn sample(to: &mut Transcript) {
     queue_sets::sample(to);
     sender_sets::sample(to);
     agreement::sample(to);
+    extended_sets::sample(to);
 }
 
 /// Adds parity to two stripped bytes and asks for the pair.

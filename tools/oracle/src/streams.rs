@@ -57,7 +57,7 @@ fn worked() -> Vec<Stream> {
         .collect()
 }
 
-type Pair = [u8; 2];
+pub type Pair = [u8; 2];
 
 /// Roll-up 2 on channel one and on channel two, so that text has a channel to go to.
 const ON_CHANNEL_ONE: Pair = [0x94, 0x25];
@@ -96,7 +96,7 @@ fn of_a_line(random: &mut Random, length: usize) -> Stream {
 }
 
 /// Any bytes; three pairs in four are refused.
-fn of_any_bytes(random: &mut Random, length: usize) -> Stream {
+pub fn of_any_bytes(random: &mut Random, length: usize) -> Stream {
     (0..length).map(|_| random.below(0x100) as u8).collect()
 }
 

@@ -58,7 +58,7 @@ fn padded(bytes: &[u8]) -> [u8; LENGTH] {
 
 fn difference(index: usize, query: &[u8], expected: &[u8], found: &[u8]) -> String {
     format!(
-        "query {index} differs\n  query:  {}\n  crate:  {}\n  replay: {}",
+        "query {index} differs\n  query:  {}\n  oracle: {}\n  replay: {}",
         hex(query),
         hex(expected),
         hex(found)

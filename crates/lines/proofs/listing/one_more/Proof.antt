@@ -14,12 +14,12 @@ add-result c = search needs
 
 returns : tie.Need-returns
 returns c =
-    let q = c .before .args .refused in
+    let q = c .before .args .count in
     sym (ap (λ (t : Bool). cond t (q + 1) q) (le-leb q mostPairs (c .if1 .taken)))
 
 returns-2 : tie.Need-returns-2
 returns-2 c =
-    let q = c .before .args .refused in
+    let q = c .before .args .count in
     sym (ap (λ (t : Bool). cond t (q + 1) q) (lt-leb q mostPairs (c .if1 .left)))
 
 pub one-more-spec : {M : Type 1} → statement M

@@ -1,0 +1,12 @@
+pub mod Class
+pub mod Part
+pub mod Packet
+pub mod Extended
+pub mod State
+pub mod Whole
+pub mod Reading
+pub mod Refusals
+pub mod WhatRuns
+pub mod SentWhole
+pub mod SentInParts
+pub mod WorkedCases

@@ -1,0 +1,10 @@
+pub mod AnyCutting
+pub mod Blocks
+pub mod Bounds
+pub mod Called
+pub mod OneAnswer
+pub mod Progress
+pub mod Reading
+pub mod Shown
+pub mod Turns
+pub mod WorkedCase

@@ -1,0 +1,5 @@
+pub mod Words
+pub mod Packets
+pub mod Pieces
+pub mod Calls
+pub mod Blocks
