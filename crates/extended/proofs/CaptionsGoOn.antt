@@ -5,7 +5,6 @@ use Prim.Native.Nat.{ℕ}
 use borrow.Author.Tests.{not-true}
 use mathlib.Core.Bool.{Bool, cond, false, not, true, true≢false}
 use mathlib.Core.List.{List, [], _∷_, map}
-use mathlib.Core.Option.{none}
 use mathlib.Core.Path.{_≡_, refl, ap, ap₂, sym, subst, _∙_}
 use Rattle.code.proofs.Both.{both-true}
 use Rattle.code.specs.Outcome.{Outcome, answer, refused}
@@ -14,8 +13,7 @@ use Rattle.code.specs.declared.pair.Pair.{Pair}
 use Rattle.extended.proofs.CaptionsAlone.{AsTheReceiver, command-as-the-receiver, read-as-the-receiver}
 use Rattle.extended.proofs.Refusals.{what-a-refusal-leaves}
 use Rattle.extended.proofs.Ways as way
-use Rattle.extended.proofs.Ways.{Way, heardBy, way-of}
-use Rattle.extended.proofs.WhatRuns.{heard-not-refused}
+use Rattle.extended.proofs.Ways.{Way, heard-not-refused, heardBy, way-of}
 use Rattle.extended.specs.Extended.{Read, Reader, Report, read, reported, withCaptions}
 use Rattle.extended.specs.Reading.{after, answers, captionsRun, isPacketCode, isRefused, noPacketCode, notRefused, unlessRefused}
 use Rattle.extended.specs.Refusals.{Leaves, end-in-captions, end-of-no-packet, invalid-parity, no-such-packet, too-long, wrong-sum}

@@ -1,7 +1,7 @@
 -- The memory of a state: contents keep what they have, and what is added comes after it; one class's packet does not touch
 -- another's.
 -- Assumes nothing.
-use Prim.Native.Nat.{ℕ, _+_, _-_, _<_, _≤_, min, suc}
+use Prim.Native.Nat.{ℕ, _+_, _<_, _≤_, min, suc}
 use borrow.Author.Tests.{eq-eqb}
 use lib.ListN.{getD, length, length-append, length-set, length-take, set, take}
 use lib.Seq.{getD-set-other, getD-set-same, take-suc-set}

@@ -19,9 +19,9 @@ use Rattle.event.specs.declared.event.Cea608.{Cea608}
 use Rattle.extended.proofs.Refusals.{refused-exactly-so}
 use Rattle.extended.proofs.Ways as way
 use Rattle.extended.proofs.Ways.{Way, heardBy, read-by-part, way-of}
-use Rattle.extended.specs.Extended.{Read, Reader, Report, event, isType, nothing, opened, packet, read, reported}
+use Rattle.extended.specs.Extended.{Read, Reader, event, isType, nothing, opened, read, reported}
 use Rattle.extended.specs.Part.{partOf}
-use Rattle.extended.specs.Reading.{Is, after, answers, captionsRun, first, isCommandReceived, isEvent, isRefused, noneIsCommand, noneIsEvent, second}
+use Rattle.extended.specs.Reading.{Is, after, answers, captionsRun, first, givenEvent, isCommandReceived, isEvent, isRefused, noneIsCommand, noneIsEvent, second}
 use Rattle.extended.specs.Refusals.{no-such-packet}
 use Rattle.extended.specs.declared.class.Class.{Class}
 use Rattle.extended.specs.declared.part.Part.the-variants as part
@@ -48,18 +48,12 @@ is-received p is =
 abbrev pub IsCaption : Reader → Pair → Type 0
 IsCaption s p = Is part.Command p ⊎ (Is part.Other p × (captionsRun (s .running) ≡ true))
 
-abbrev eventIn : Outcome Report → Option Cea608
-eventIn (answer nothing) = none
-eventIn (answer (event e)) = some e
-eventIn (answer (packet c t bs)) = none
-eventIn (refused n) = none
-
 no-event : (e : Cea608) → _≡_ {A = Option Cea608} none (some e) → ⊥
 no-event e same-event = let z : _≡_ {A = ℕ} 0 1 = cc in absurd (omega arith)
 
 heard-event : (o : Outcome (Option Cea608)) (e : Cea608) → reported o ≡ answer (event e) → o ≡ answer (some e)
-heard-event (answer none) e x = absurd (no-event e (ap eventIn x))
-heard-event (answer (some y)) e x = ap answer (ap eventIn x)
+heard-event (answer none) e x = absurd (no-event e (ap givenEvent x))
+heard-event (answer (some y)) e x = ap answer (ap givenEvent x)
 heard-event (refused n) e x = absurd (clash (sym x))
 
 module _ (s : Reader) (p : Pair) (e : Cea608) where
@@ -67,15 +61,15 @@ module _ (s : Reader) (p : Pair) (e : Cea608) where
   event-way _ (way.corrupted even) x = absurd (clash (sym x))
   event-way _ (way.acts is) x = (inl is, heard-event (heardBy s p .0) e x)
   event-way _ (way.is-text is runs) x = (inr (is, ap captionsRun runs), heard-event (heardBy s p .0) e x)
-  event-way _ (way.starts c is) x = absurd (no-event e (ap eventIn x))
-  event-way _ (way.goes-on c is there) x = absurd (no-event e (ap eventIn x))
+  event-way _ (way.starts c is) x = absurd (no-event e (ap givenEvent x))
+  event-way _ (way.goes-on c is there) x = absurd (no-event e (ap givenEvent x))
   event-way _ (way.no-such-packet c is there) x = absurd (clash (sym x))
   event-way _ (way.ends-in-captions is runs) x = absurd (clash (sym x))
   event-way _ (way.ends-without-packet c is runs there) x = absurd (clash (sym x))
-  event-way _ (way.finishes c k is runs there right) x = absurd (no-event e (ap eventIn x))
+  event-way _ (way.finishes c k is runs there right) x = absurd (no-event e (ap givenEvent x))
   event-way _ (way.has-wrong-sum c k is runs there wrong) x = absurd (clash (sym x))
-  event-way _ (way.is-passed-over c is runs there) x = absurd (no-event e (ap eventIn x))
-  event-way _ (way.fills c k is runs there room) x = absurd (no-event e (ap eventIn x))
+  event-way _ (way.is-passed-over c is runs there) x = absurd (no-event e (ap givenEvent x))
+  event-way _ (way.fills c k is runs there room) x = absurd (no-event e (ap givenEvent x))
   event-way _ (way.is-too-long c k is runs there full) x = absurd (clash (sym x))
 
   pub an-event-is-of-a-caption : read s p .0 ≡ answer (event e) → IsCaption s p × (heardBy s p .0 ≡ answer (some e))

@@ -4,21 +4,21 @@
 use Prim.Native.Nat.{ℕ, _≤_, min}
 use lib.ListN.{length, length-take}
 use mathlib.Core.Bool.{Bool, cond, false, true, true≢false}
-use mathlib.Core.List.{List, []}
 use mathlib.Core.Option.{Option, none, some}
-use mathlib.Core.Path.{_≡_, refl, sym, subst}
+use mathlib.Core.Path.{_≡_, refl, ap, sym, subst}
 use native.Mathlib.Omega.{arith}
-use Rattle.code.specs.Outcome.{Outcome, answer, refused}
+use Rattle.code.specs.Outcome.{answer}
 use Rattle.code.specs.Read.{isOddPair}
 use Rattle.code.specs.declared.pair.Pair.{Pair}
-use Rattle.event.specs.declared.event.Cea608.{Cea608}
 use Rattle.extended.proofs.Decoding.{even-pair, odd-pair}
-use Rattle.extended.proofs.WhatRuns.{heard-not-refused}
-use Rattle.extended.specs.Extended.{Report, event, nothing, packet, reported}
-use Rattle.extended.specs.Packet.{contentBytes, isRightSum, mostContents}
+use Rattle.extended.proofs.Reports as reports
+use Rattle.extended.proofs.Ways.{heard-not-refused}
+use Rattle.extended.specs.Extended.{nothing, reported}
+use Rattle.extended.specs.Packet.{Packet, contentBytes, isRightSum, mostContents}
 use Rattle.extended.specs.Part.{partOf}
-use Rattle.extended.specs.Reading.{first, isPacket, isRefused, second}
+use Rattle.extended.specs.Reading.{first, isRefused, isSome, second}
 use Rattle.extended.specs.Refusals.{LeavesRecord, a-packet, by-1, by-13, by-14, by-15, no-packet}
+use Rattle.extended.specs.Reports.{contentsIn, givenPacket, reportedBytes}
 use Rattle.extended.specs.State.{Step, byPartState, contentsOf, endedState, filledState, finishedState, gives, hasRoom, isOf, otherState, packetAt, readerOf, step}
 use Rattle.extended.specs.declared.class.Class.{Class}
 use Rattle.extended.specs.declared.packet.Contents.{Contents}
@@ -40,12 +40,6 @@ either s false x y first other = other
 silent : (s next : ExtendedState) → LeavesRecord s (gives (answer nothing) next)
 silent s next = no-packet (answer nothing) next refl refl
 
--- what the captions' receiver answers is no packet
-no-packet-heard : (o : Outcome (Option Cea608)) → isPacket (reported o) ≡ false
-no-packet-heard (answer none) = refl
-no-packet-heard (answer (some e)) = refl
-no-packet-heard (refused n) = refl
-
 module _ (s : ExtendedState) (h : Stepped) (heard : isRefused (reported (h .0)) ≡ false) where
   finished-leaves : (c : Class) → s .running ≡ running.Extended c → (x : PacketType) (k : Contents) (sum : ℕ) → LeavesRecord s (finishedState s (h .1) c x k sum)
   finished-leaves c runs packet-type.Absent k sum = by-13
@@ -62,12 +56,12 @@ module _ (s : ExtendedState) (h : Stepped) (heard : isRefused (reported (h .0)) 
   filled-leaves c runs (packet-type.Known t) k a b = either s (hasRoom k (contentBytes a b)) _ _ (silent s _) (by-14 c runs)
 
   other-leaves : (x : Running) → s .running ≡ x → (a b : ℕ) → LeavesRecord s (otherState s h x a b)
-  other-leaves running.Captions runs a b = no-packet (reported (h .0)) _ heard (no-packet-heard (h .0))
+  other-leaves running.Captions runs a b = no-packet (reported (h .0)) _ heard (ap isSome (reports.no-packet (h .0)))
   other-leaves (running.Extended c) runs a b =
       filled-leaves c runs (packetAt (s .packets) c .«packet_type») (packetAt (s .packets) c .contents) a b
 
   part-leaves : (x : Part) (a b : ℕ) → LeavesRecord s (byPartState s h x a b)
-  part-leaves part.Command a b = no-packet (reported (h .0)) _ heard (no-packet-heard (h .0))
+  part-leaves part.Command a b = no-packet (reported (h .0)) _ heard (ap isSome (reports.no-packet (h .0)))
   part-leaves (part.Start c) a b = silent s _
   part-leaves (part.Continuation c) a b = either s (isOf b (packetAt (s .packets) c)) _ _ (silent s _) by-13
   part-leaves part.End a b = ended-leaves (s .running) refl b
@@ -82,21 +76,12 @@ by-parity s p false even = subst (LeavesRecord s) (sym (even-pair s p even)) by-
 pub what-a-pair-leaves : (s : ExtendedState) (p : Pair) → LeavesRecord s (step s p)
 what-a-pair-leaves s p = by-parity s p (isOddPair p) refl
 
--- the content bytes of what a pair gave, if it finished a packet
-abbrev pub reportedBytes : Outcome Report → List ℕ
-reportedBytes (answer nothing) = []
-reportedBytes (answer (event e)) = []
-reportedBytes (answer (packet c t bs)) = bs
-reportedBytes (refused n) = []
-
-few-without : (o : Outcome Report) → isPacket o ≡ false → length (reportedBytes o) ≤ mostContents
-few-without (answer nothing) e = omega arith
-few-without (answer (event x)) e = omega arith
-few-without (answer (packet c t bs)) e = absurd (true≢false e)
-few-without (refused n) e = omega arith
+few-without : (x : Option (Class × Packet)) → isSome x ≡ false → length (contentsIn x) ≤ mostContents
+few-without none e = omega arith
+few-without (some k) e = absurd (true≢false e)
 
 few-in : (s : ExtendedState) (r : Step) → LeavesRecord s r → length (reportedBytes (r .0)) ≤ mostContents
-few-in s _ (no-packet o next taken other) = few-without o other
+few-in s _ (no-packet o next taken other) = few-without (givenPacket o) other
 few-in s _ (a-packet c t k next) = omega (arith, length-take (min mostContents (k .length)) (k .bytes))
 few-in s _ by-1 = omega arith
 few-in s _ by-13 = omega arith

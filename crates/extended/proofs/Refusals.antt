@@ -3,39 +3,33 @@
 use Prim.Native.Nat.{ℕ}
 use borrow.Author.Tests.{leb-false, lt-leb}
 use lib.ListN.{length}
-use mathlib.Core.Option.{Option, none, some}
-use mathlib.Core.Path.{_≡_, refl, ap, subst, _∙_}
+use mathlib.Core.Bool.{true≢false}
+use mathlib.Core.Option.{Option}
+use mathlib.Core.Path.{_≡_, refl, ap, subst, sym, _∙_}
 use Rattle.code.proofs.OneAnswer.{clash}
 use Rattle.code.specs.Outcome.{Outcome, answer, refused}
 use Rattle.code.specs.declared.pair.Pair.{Pair}
-use Rattle.event.specs.declared.event.Cea608.{Cea608}
 use Rattle.extended.proofs.Ways as way
-use Rattle.extended.proofs.Ways.{Way, even-read, heardBy, read-by-part, way-of, withContents}
-use Rattle.extended.specs.Extended.{Read, Reader, Report, ended, filled, finished, other, read, reported}
+use Rattle.extended.proofs.Ways.{Way, even-read, heard-not-refused, heardBy, read-by-part, way-of, withContents}
+use Rattle.extended.specs.Extended.{Read, Reader, Report, ended, filled, finished, other, read}
 use Rattle.extended.specs.Packet.{Packet, contentBytes, mostContents}
-use Rattle.extended.specs.Reading.{first, second}
+use Rattle.extended.specs.Reading.{first, isRefused, second}
 use Rattle.extended.specs.Refusals.{Leaves, end-in-captions, end-of-no-packet, invalid-parity, no-such-packet, too-long, wrong-sum}
 use Rattle.extended.specs.declared.part.Part.the-variants as part
 use Rattle.extended.specs.declared.state.Running.{Running}
-use Rattle.receiver.proofs.Step.{odd-is-not-refused}
 
-abbrev numberOf : {A : Type 0} → Outcome A → ℕ
+abbrev numberOf : Outcome Report → ℕ
 numberOf (answer x) = 0
 numberOf (refused n) = n
 
-still-refused : (o : Outcome (Option Cea608)) (n : ℕ) → reported o ≡ refused n → o ≡ refused n
-still-refused (answer none) n e = absurd (clash e)
-still-refused (answer (some x)) n e = absurd (clash e)
-still-refused (refused m) n e = ap refused (ap (numberOf {A = Report}) e)
-
 module _ (s : Reader) (p : Pair) where
   by-number : (m n : ℕ) (left : Reader) → _≡_ {A = Outcome Report} (refused m) (refused n) → Leaves s p m left → Leaves s p n left
-  by-number m n left e = subst (λ (k : ℕ). Leaves s p k left) (ap (numberOf {A = Report}) e)
+  by-number m n left e = subst (λ (k : ℕ). Leaves s p k left) (ap numberOf e)
 
   by-way : (n : ℕ) (r : Read) → Way s p r → r .0 ≡ refused n → Leaves s p n (r .1)
   by-way n _ (way.corrupted even) e = by-number 1 n s e (invalid-parity even)
-  by-way n _ (way.acts is) e = absurd (odd-is-not-refused (s .captions) p n (is .odd) (still-refused (heardBy s p .0) n e))
-  by-way n _ (way.is-text is runs) e = absurd (odd-is-not-refused (s .captions) p n (is .odd) (still-refused (heardBy s p .0) n e))
+  by-way n _ (way.acts is) e = absurd (true≢false (sym (ap isRefused e) ∙ heard-not-refused s p (is .odd)))
+  by-way n _ (way.is-text is runs) e = absurd (true≢false (sym (ap isRefused e) ∙ heard-not-refused s p (is .odd)))
   by-way n _ (way.starts c is) e = absurd (clash e)
   by-way n _ (way.goes-on c is there) e = absurd (clash e)
   by-way n _ (way.no-such-packet c is other) e = by-number 13 n s e (no-such-packet c is other)

@@ -17,35 +17,27 @@ use Rattle.extended.proofs.Classes.{its-own-class, same-class}
 use Rattle.extended.proofs.Ways.{Way, acts, corrupted, ends-in-captions, ends-without-packet, fills, finishes, goes-on, has-wrong-sum, heardBy, is-passed-over, is-text, is-too-long, no-such-packet, starts, way-of, withContents}
 use Rattle.extended.specs.Extended.{Read, Reader, Report, event, fresh, nothing, packet, read, reported, sameClass}
 use Rattle.extended.specs.Packet.{Packet, mostContents}
-use Rattle.extended.specs.Reading.{Is, after, answers}
-use Rattle.extended.specs.SentWhole.{Becomes, WasOpen, begun, ended, isOwnStart, more, noOwnStart, reports, the-same, timesReported, too-long}
+use Rattle.extended.specs.Reading.{Is, after, answers, isSome}
+use Rattle.extended.specs.Reports.{Becomes, WasOpen, begun, ended, givenPacket, more, reports, the-same, timesReported, too-long}
+use Rattle.extended.specs.SentWhole.{isOwnStart, noOwnStart}
 use Rattle.extended.specs.declared.class.Class.{Class}
 use Rattle.extended.specs.declared.part.Part.the-variants as part
 use Rattle.extended.specs.declared.state.Running.the-variants as running
 
--- the packet that is reported, if one is, and its class
-abbrev reportedPacket : Outcome Report → Option (Class × Packet)
-reportedPacket (answer nothing) = none
-reportedPacket (answer (event e)) = none
-reportedPacket (answer (packet c t bs)) = some (c, record { packetType = t; contents = bs })
-reportedPacket (refused n) = none
-
-no-packet : (o : Outcome (Option Cea608)) → reportedPacket (reported o) ≡ none
+-- what the captions' receiver answers is no packet
+pub no-packet : (o : Outcome (Option Cea608)) → givenPacket (reported o) ≡ none
 no-packet (answer none) = refl
 no-packet (answer (some e)) = refl
 no-packet (refused n) = refl
 
-abbrev isSome : {A : Type 0} → Option A → Bool
-isSome none = false
-isSome (some a) = true
-
-abbrev orElse : {A : Type 0} → A → Option A → A
+-- what is there, or this
+abbrev pub orElse : {A : Type 0} → A → Option A → A
 orElse a none = a
 orElse a (some b) = b
 
 module _ (s : Reader) (p : Pair) (c : Class) (t : ℕ) (bs : List ℕ) where
-  not-this : (o : Outcome Report) → reportedPacket o ≡ none → o ≡ answer (packet c t bs) → ⊥
-  not-this o other e = true≢false (sym (ap (λ (x : Outcome Report). isSome (reportedPacket x)) e) ∙ ap isSome other)
+  not-this : (o : Outcome Report) → givenPacket o ≡ none → o ≡ answer (packet c t bs) → ⊥
+  not-this o other e = true≢false (sym (ap (λ (x : Outcome Report). isSome (givenPacket x)) e) ∙ ap isSome other)
 
   reported-by : (r : Read) → Way s p r → r .0 ≡ answer (packet c t bs) → WasOpen s p c t bs
   reported-by _ (corrupted even) e = absurd (not-this (refused 1) refl e)
@@ -58,7 +50,7 @@ module _ (s : Reader) (p : Pair) (c : Class) (t : ℕ) (bs : List ℕ) where
   reported-by _ (ends-without-packet d is runs there) e = absurd (not-this (refused 13) refl e)
   reported-by _ (finishes d k is runs there right) e =
       let both : _≡_ {A = Class × Packet} (d, k) (c, record { packetType = t; contents = bs }) =
-      ap (λ (o : Outcome Report). orElse (d, k) (reportedPacket o)) e
+      ap (λ (o : Outcome Report). orElse (d, k) (givenPacket o)) e
       in
       subst (λ (x : Class × Packet). WasOpen s p (x .0) (x .1 .packetType) (x .1 .contents)) both
       (record { end = is; runs-now = runs; held = there; sum = right })

@@ -8,7 +8,7 @@ use mathlib.Core.Bool.{Bool, _&&_, cond, false, not, true, true≢false}
 use mathlib.Core.List.{List, [], _++_, _∷_, append-assoc, append-nil}
 use mathlib.Core.Path.{_≡_, refl, ap, ap₂, sym, subst, _∙_}
 use native.Mathlib.Omega.{arith}
-use Rattle.code.proofs.Both.{both-true}
+use Rattle.code.proofs.Both.{both-fail, both-true}
 use Rattle.code.specs.Outcome.{answer}
 use Rattle.code.specs.Read.{isOddPair}
 use Rattle.code.specs.declared.pair.Pair.{Pair}
@@ -111,9 +111,7 @@ abbrev StaysShut : Class → Reader → Pair → Type 0
 StaysShut c s p = One c s p [] × (runs c (read s p .1 .running) ≡ false)
 
 none-of : (t u : Bool) → t && (u && false) ≡ false
-none-of true true = refl
-none-of true false = refl
-none-of false u = refl
+none-of t u = ap (λ (v : Bool). t && v) (both-fail u) ∙ both-fail t
 
 either-shut : (c : Class) (t : Bool) (r x : Running) → runs c r ≡ false → runs c x ≡ false → runs c (cond t r x) ≡ false
 either-shut c true r x shut other = shut
@@ -172,21 +170,17 @@ interrupting c (part.Continuation d) e = record { no-start = refl; no-end = refl
 interrupting c part.End e = absurd (true≢false (sym e))
 interrupting c part.Other e = absurd (true≢false (sym e))
 
-never : (t : Bool) → t && false ≡ false
-never true = refl
-never false = refl
-
 interruption : (c : Class) (s : Reader) (q : Pair) → interrupts c s q ≡ true → StaysShut c s q
 interruption c s q it =
     let x = partOf (first q) in
     let both = both-true (not (isRefused (read s q .0))) (isInterruption c x) it in
     let what = interrupting c x (both .1) in (
       record {
-        no-start = ap (λ (u : Bool). isOddPair q && u) (what .no-start) ∙ never (isOddPair q);
-        no-end = ap (λ (u : Bool). isOddPair q && (u && runs c (s .running))) (what .no-end) ∙ never (isOddPair q);
+        no-start = ap (λ (u : Bool). isOddPair q && u) (what .no-start) ∙ both-fail (isOddPair q);
+        no-end = ap (λ (u : Bool). isOddPair q && (u && runs c (s .running))) (what .no-end) ∙ both-fail (isOddPair q);
         bytes =
             ap (λ (u : Bool). cond (isOddPair q && (u && runs c (s .running))) (contentBytes (first q) (second q)) []) (what .no-contents)
-            ∙ ap (λ (u : Bool). cond u (contentBytes (first q) (second q)) []) (never (isOddPair q));
+            ∙ ap (λ (u : Bool). cond u (contentBytes (first q) (second q)) []) (both-fail (isOddPair q));
       },
       ap (runs c) (what-runs s q)
           ∙ ap (λ (u : Bool). runs c (cond u (s .running) (runsAfter x (s .running)))) (not-true (isRefused (read s q .0)) (both .0))

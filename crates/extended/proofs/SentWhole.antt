@@ -1,7 +1,7 @@
 -- A packet that is sent whole, with a right sum, is reported once, with its class, its type and its contents: whatever
 -- captions, padding, refused pairs and other classes' packets stand between its start and its end, if none is its own start.
 -- Assumes nothing.
-use Prim.Native.Nat.{ℕ, _+_, _≤_}
+use Prim.Native.Nat.{ℕ, _≤_}
 use borrow.Author.Tests.{le-leb, not-true}
 use lib.ListN.{length, length-append}
 use mathlib.Core.Bool.{Bool, _&&_, cond, false, not, true, true≢false}
@@ -10,16 +10,17 @@ use mathlib.Core.Option.{Option, none, some}
 use mathlib.Core.Path.{_≡_, refl, ap, sym, subst, _∙_}
 use native.Mathlib.Omega.{arith}
 use Rattle.code.proofs.Both.{both-true}
-use Rattle.code.specs.Outcome.{Outcome, answer, refused}
+use Rattle.code.specs.Outcome.{Outcome, answer}
 use Rattle.code.specs.declared.pair.Pair.{Pair}
 use Rattle.event.specs.declared.event.Cea608.{Cea608}
 use Rattle.extended.proofs.Classes.{its-own-class, same-class}
-use Rattle.extended.proofs.Reports.{not-before-a-start}
+use Rattle.extended.proofs.Reports.{no-packet, not-before-a-start, orElse}
 use Rattle.extended.proofs.Ways.{Way, acts, corrupted, ends-in-captions, ends-without-packet, fills, finishes, fits, goes-on, has-wrong-sum, heardBy, is-passed-over, is-text, is-too-long, no-such-packet, read-by-part, starts, way-of, withContents}
 use Rattle.extended.specs.Extended.{Read, Reader, ended, finished, packet, read, reported, sameClass, withCaptions, withPacket}
 use Rattle.extended.specs.Packet.{Packet, contentBytes, isRightSum, mostContents}
 use Rattle.extended.specs.Reading.{Is, after, answers, first, second}
-use Rattle.extended.specs.SentWhole.{ReportedOnce, SentWhole, brings, brought, goesOn, isOwnEnd, isOwnStart, reports, runs, timesReported}
+use Rattle.extended.specs.Reports.{countIn, reports, timesReported}
+use Rattle.extended.specs.SentWhole.{ReportedOnce, SentWhole, brings, brought, goesOn, isOwnEnd, isOwnStart, runs}
 use Rattle.extended.specs.declared.class.Class.{Class}
 use Rattle.extended.specs.declared.part.Part.the-variants as part
 use Rattle.extended.specs.declared.state.Running.the-variants as running
@@ -28,14 +29,8 @@ use Rattle.extended.specs.declared.state.Running.{Running}
 abbrev pub holding : ℕ → List ℕ → Option Packet
 holding t bs = some (record { packetType = t; contents = bs })
 
-abbrev orElse : Packet → Option Packet → Packet
-orElse k none = k
-orElse k (some j) = j
-
 no-report : (c : Class) (o : Outcome (Option Cea608)) → reports c (reported o) ≡ 0
-no-report c (answer none) = refl
-no-report c (answer (some e)) = refl
-no-report c (refused n) = refl
+no-report c o = ap (countIn c) (no-packet o)
 
 -- after a pair the packet is there with these contents, and none of its class was reported
 abbrev Still : Class → ℕ → List ℕ → Read → Type 0

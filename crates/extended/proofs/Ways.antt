@@ -1,30 +1,42 @@
 -- The thirteen ways of a pair, by its parity, its part and what runs. The cases of the definition are gone through here, once,
 -- for every law that needs them.
 -- Assumes nothing.
+use Prim.Native.Nat.{ℕ}
 use lib.Dec.{leb}
 use lib.ListN.{length}
 use mathlib.Core.Bool.{Bool, true, false}
 use mathlib.Core.List.{_++_}
 use mathlib.Core.Option.{Option, none, some}
 use mathlib.Core.Path.{_≡_, refl, sym, subst}
-use Rattle.code.specs.Outcome.{answer, refused}
+use Rattle.code.specs.Outcome.{Outcome, answer, refused}
 use Rattle.code.specs.Read.{isOddPair}
 use Rattle.code.specs.declared.pair.Pair.{Pair}
+use Rattle.event.specs.declared.event.Cea608.{Cea608}
 use Rattle.extended.specs.Extended.{Read, Reader, byPart, command, continued, dropped, ended, filled, finished, isType, nothing, opened, other, packet, read, reported, started, withCaptions, withPacket}
 use Rattle.extended.specs.Packet.{Packet, contentBytes, isRightSum, mostContents}
 use Rattle.extended.specs.Part.{partOf}
-use Rattle.extended.specs.Reading.{Is, first, second}
+use Rattle.extended.specs.Reading.{Is, first, isRefused, second}
 use Rattle.extended.specs.declared.class.Class.{Class}
 use Rattle.extended.specs.declared.part.Part.the-variants as part
 use Rattle.extended.specs.declared.part.Part.{Part}
 use Rattle.extended.specs.declared.state.Running.the-variants as running
 use Rattle.extended.specs.declared.state.Running.{Running}
+use Rattle.receiver.proofs.Step.{odd-is-not-refused}
 use Rattle.receiver.specs.Receiver as receiver
 use Rattle.receiver.specs.Receiver.{Stepped}
 
 -- the captions' receiver after a pair
 abbrev pub heardBy : Reader → Pair → Stepped
 heardBy s p = receiver.step (s .captions) p
+
+-- what the captions' receiver answers to a pair that is received is no refusal
+not-refused : (o : Outcome (Option Cea608)) → ((n : ℕ) → o ≡ refused n → ⊥) → isRefused (reported o) ≡ false
+not-refused (answer none) other = refl
+not-refused (answer (some e)) other = refl
+not-refused (refused n) other = absurd (other n refl)
+
+pub heard-not-refused : (s : Reader) (p : Pair) → isOddPair p ≡ true → isRefused (reported (heardBy s p .0)) ≡ false
+heard-not-refused s p odd = not-refused (heardBy s p .0) (λ (n : ℕ). odd-is-not-refused (s .captions) p n odd)
 
 -- the contents of a packet with those of a pair after them
 abbrev pub withContents : Packet → Pair → Packet

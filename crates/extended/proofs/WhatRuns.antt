@@ -1,29 +1,14 @@
 -- What runs after any pair: a refused pair changes nothing of it, and any other pair what its part says.
 -- Assumes nothing.
-use Prim.Native.Nat.{ℕ}
-use mathlib.Core.Bool.{Bool, cond, false, true}
-use mathlib.Core.Option.{Option, none, some}
+use mathlib.Core.Bool.{Bool, cond, false}
 use mathlib.Core.Path.{_≡_, refl, ap₂, sym}
-use Rattle.code.specs.Outcome.{Outcome, answer, refused}
-use Rattle.code.specs.Read.{isOddPair}
 use Rattle.code.specs.declared.pair.Pair.{Pair}
-use Rattle.event.specs.declared.event.Cea608.{Cea608}
-use Rattle.extended.proofs.Ways.{Way, acts, corrupted, ends-in-captions, ends-without-packet, fills, finishes, goes-on, has-wrong-sum, heardBy, is-passed-over, is-text, is-too-long, no-such-packet, starts, way-of}
-use Rattle.extended.specs.Extended.{Read, Reader, read, reported}
+use Rattle.extended.proofs.Ways.{Way, acts, corrupted, ends-in-captions, ends-without-packet, fills, finishes, goes-on, has-wrong-sum, heard-not-refused, is-passed-over, is-text, is-too-long, no-such-packet, starts, way-of}
+use Rattle.extended.specs.Extended.{Read, Reader, read}
 use Rattle.extended.specs.Part.{partOf}
 use Rattle.extended.specs.Reading.{Is, first, isRefused}
 use Rattle.extended.specs.WhatRuns.{runsAfter}
 use Rattle.extended.specs.declared.part.Part.{Part}
-use Rattle.receiver.proofs.Step.{odd-is-not-refused}
-
--- what the captions' receiver answers to a pair that is received is no refusal
-not-refused : (o : Outcome (Option Cea608)) → ((n : ℕ) → o ≡ refused n → ⊥) → isRefused (reported o) ≡ false
-not-refused (answer none) other = refl
-not-refused (answer (some e)) other = refl
-not-refused (refused n) other = absurd (other n refl)
-
-pub heard-not-refused : (s : Reader) (p : Pair) → isOddPair p ≡ true → isRefused (reported (heardBy s p .0)) ≡ false
-heard-not-refused s p odd = not-refused (heardBy s p .0) (λ (n : ℕ). odd-is-not-refused (s .captions) p n odd)
 
 abbrev RunsOn : Reader → Pair → Read → Type 0
 RunsOn s p r = r .1 .running ≡ cond (isRefused (r .0)) (s .running) (runsAfter (partOf (first p)) (s .running))

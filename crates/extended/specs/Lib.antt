@@ -7,6 +7,7 @@ pub mod Whole
 pub mod Reading
 pub mod Refusals
 pub mod WhatRuns
+pub mod Reports
 pub mod SentWhole
 pub mod SentInParts
 pub mod WorkedCases

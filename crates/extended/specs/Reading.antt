@@ -2,12 +2,14 @@
 use Prim.Native.Nat.{ℕ}
 use mathlib.Core.Bool.{Bool, _&&_, cond, false, not, true}
 use mathlib.Core.List.{List, [], _∷_}
+use mathlib.Core.Option.{Option, none, some}
 use mathlib.Core.Path.{_≡_}
 use Rattle.code.specs.Outcome.{Outcome, answer, refused}
 use Rattle.code.specs.Parity.{stripped}
 use Rattle.code.specs.Range.{within}
 use Rattle.code.specs.Read.{isCommandPair, isOddPair}
 use Rattle.code.specs.declared.pair.Pair.{Pair}
+use Rattle.event.specs.declared.event.Cea608.{Cea608}
 use Rattle.extended.specs.Extended.{Reader, Report, event, nothing, packet, read}
 use Rattle.extended.specs.Part.{partOf}
 use Rattle.extended.specs.declared.part.Part.{Part}
@@ -51,23 +53,23 @@ abbrev pub noneIsCommand : List Pair → Bool
 noneIsCommand [] = true
 noneIsCommand (p ∷ ps) = not (isCommandReceived p) && noneIsCommand ps
 
--- no event among what was given
+-- the event that was given, if one was
+abbrev pub givenEvent : Outcome Report → Option Cea608
+givenEvent (answer nothing) = none
+givenEvent (answer (event e)) = some e
+givenEvent (answer (packet c t bs)) = none
+givenEvent (refused n) = none
+
+abbrev pub isSome : {A : Type 0} → Option A → Bool
+isSome none = false
+isSome (some a) = true
+
 abbrev pub isEvent : Outcome Report → Bool
-isEvent (answer nothing) = false
-isEvent (answer (event e)) = true
-isEvent (answer (packet c t bs)) = false
-isEvent (refused n) = false
+isEvent o = isSome (givenEvent o)
 
 abbrev pub noneIsEvent : List (Outcome Report) → Bool
 noneIsEvent [] = true
 noneIsEvent (o ∷ os) = not (isEvent o) && noneIsEvent os
-
--- a packet that is finished
-abbrev pub isPacket : Outcome Report → Bool
-isPacket (answer nothing) = false
-isPacket (answer (event e)) = false
-isPacket (answer (packet c t bs)) = true
-isPacket (refused n) = false
 
 -- the pairs that are not refused, and what they give
 abbrev pub isRefused : Outcome Report → Bool

@@ -11,7 +11,8 @@ use Rattle.code.specs.Read.{isOddPair}
 use Rattle.code.specs.declared.pair.Pair.{Pair}
 use Rattle.extended.specs.Extended.{Reader, Report, isType, packet, withPacket}
 use Rattle.extended.specs.Packet.{Packet, contentBytes, isRightSum, mostContents}
-use Rattle.extended.specs.Reading.{Is, first, isPacket, isRefused, second}
+use Rattle.extended.specs.Reading.{Is, first, isRefused, second}
+use Rattle.extended.specs.Reports.{isPacket}
 use Rattle.extended.specs.State.{Step, absentPacket, contentsOf, gives, setPacket}
 use Rattle.extended.specs.declared.class.Class.{Class}
 use Rattle.extended.specs.declared.packet.Contents.{Contents}

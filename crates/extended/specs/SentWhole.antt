@@ -1,18 +1,18 @@
 -- A packet that is sent whole, and how it is reported, for the laws. Between its start and its end there may stand captions,
 -- padding, refused pairs and packets of other classes. The port's own words.
-use Prim.Native.Nat.{ℕ, _+_, _<_, _≤_}
+use Prim.Native.Nat.{ℕ, _≤_}
 use lib.ListN.{length}
 use mathlib.Core.Bool.{Bool, _&&_, cond, false, not, true}
 use mathlib.Core.List.{List, [], _++_, _∷_}
-use mathlib.Core.Option.{Option, none, some}
 use mathlib.Core.Path.{_≡_}
-use Rattle.code.specs.Outcome.{Outcome, answer, refused}
+use Rattle.code.specs.Outcome.{answer}
 use Rattle.code.specs.Read.{isOddPair}
 use Rattle.code.specs.declared.pair.Pair.{Pair}
-use Rattle.extended.specs.Extended.{Reader, Report, event, nothing, packet, read, sameClass}
-use Rattle.extended.specs.Packet.{Packet, contentBytes, isRightSum, mostContents}
+use Rattle.extended.specs.Extended.{Reader, packet, read, sameClass}
+use Rattle.extended.specs.Packet.{contentBytes, isRightSum, mostContents}
 use Rattle.extended.specs.Part.{partOf}
 use Rattle.extended.specs.Reading.{Is, after, answers, first, second}
+use Rattle.extended.specs.Reports.{timesReported}
 use Rattle.extended.specs.declared.class.Class.{Class}
 use Rattle.extended.specs.declared.part.Part.the-variants as part
 use Rattle.extended.specs.declared.part.Part.{Part}
@@ -80,36 +80,9 @@ pub record SentWhole (c : Class) (s : Reader) (p : Pair) (ps : List Pair) (q : P
   pub end : Is part.End q
   pub sum : isRightSum c (second p) (brought c (read s p .1) ps) (second q) ≡ true
 
--- how often a packet of this class is reported
-abbrev pub reports : Class → Outcome Report → ℕ
-reports c (answer nothing) = 0
-reports c (answer (event e)) = 0
-reports c (answer (packet d t bs)) = cond (sameClass d c) 1 0
-reports c (refused n) = 0
-
-abbrev pub timesReported : Class → List (Outcome Report) → ℕ
-timesReported c [] = 0
-timesReported c (o ∷ os) = reports c o + timesReported c os
-
 -- No packet of the class is reported up to the end; the end reports it, with its type and these contents; and then none is, until
 -- the class is started again.
 pub record ReportedOnce (c : Class) (s : Reader) (p : Pair) (ps : List Pair) (q : Pair) (bs : List ℕ) : Type 0 where
   pub not-before : timesReported c (answers s (p ∷ ps)) ≡ 0
   pub at-the-end : read (after s (p ∷ ps)) q .0 ≡ answer (packet c (second p) bs)
   pub not-after : (more : List Pair) → noOwnStart c more ≡ true → timesReported c (answers (read (after s (p ∷ ps)) q .1) more) ≡ 0
-
--- What a pair makes of the packet of a class: it stays the same; it is a new one, by its start; it has more contents, at most 32,
--- while the class runs; or it is there no more, by an end or the 33rd byte while the class runs.
-pub data Becomes (c : Class) (s : Reader) (p : Pair) : Option Packet → Type 0 where
-  the-same : Becomes c s p (s .packets c)
-  begun : Is (part.Start c) p → Becomes c s p (some (record { packetType = second p; contents = [] }))
-  more : (k : Packet) → Is part.Other p → s .running ≡ running.Extended c → s .packets c ≡ some k → length (k .contents ++ contentBytes (first p) (second p)) ≤ mostContents → Becomes c s p (some (record { packetType = k .packetType; contents = k .contents ++ contentBytes (first p) (second p) }))
-  ended : (k : Packet) → Is part.End p → s .running ≡ running.Extended c → s .packets c ≡ some k → Becomes c s p none
-  too-long : (k : Packet) → Is part.Other p → s .running ≡ running.Extended c → s .packets c ≡ some k → mostContents < length (k .contents ++ contentBytes (first p) (second p)) → Becomes c s p none
-
--- A pair that reports a packet is an end. The packet was open, with this type and these contents, and the sum is right.
-pub record WasOpen (s : Reader) (p : Pair) (c : Class) (t : ℕ) (bs : List ℕ) : Type 0 where
-  pub end : Is part.End p
-  pub runs-now : s .running ≡ running.Extended c
-  pub held : s .packets c ≡ some (record { packetType = t; contents = bs })
-  pub sum : isRightSum c t bs (second p) ≡ true

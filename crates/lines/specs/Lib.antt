@@ -1,3 +1,4 @@
+pub mod AfterRead
 pub mod Put
 pub mod Words
 pub mod Listing

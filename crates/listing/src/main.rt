@@ -6,8 +6,9 @@ ghost use mathlib.Core.Bool.{cond};
 ghost use mathlib.Core.Path.{_≡_};
 ghost use Prim.Native.Nat.{_<_};
 ghost use lib.ListN.{length};
+ghost use Rattle.lines.specs.AfterRead.{AfterRead};
+ghost use Rattle.lines.specs.Loops.{afterBlock};
 ghost use Rattle.lines.specs.Pieces.{wholePiece};
-ghost use Rattle.listing.specs.Block.{AfterRead};
 use libc::STDERR_FILENO;
 use libc::STDIN_FILENO;
 use libc::STDOUT_FILENO;
@@ -93,7 +94,7 @@ fn list_block(
     begun: Listing,
 ) -> Done
     requires { ⌜ 0 < length (now output) ⌝ }
-    ensures { λ r. ⌜ AfterRead got error begun (now (input .entry)) r ⌝ }
+    ensures { λ r. ⌜ AfterRead afterBlock got error begun (now (input .entry)) (r .failed) (r .listing) ⌝ }
 {
     if got < 0 {
         let failed = error != libc::EINTR;

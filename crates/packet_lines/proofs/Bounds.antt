@@ -1,18 +1,18 @@
 -- How long the text of a byte is: a packet's line has at most 123 bytes, and no byte makes more text than there is room for
 -- where it is taken. Neither does the end.
 -- Assumes nothing.
-use Prim.Native.Nat.{ℕ, _+_, _≤_, min}
+use Prim.Native.Nat.{ℕ, _+_, _≤_}
 use lib.Dec.{leb}
-use lib.ListN.{length, length-append, length-take, take}
-use lib.Seq.{take-length, take-take}
+use lib.ListN.{length, length-append}
 use mathlib.Core.Bool.{Bool, true, false, cond}
 use mathlib.Core.List.{List, [], _∷_, _++_}
-use mathlib.Core.Path.{_≡_, refl, ap, sym, _∙_}
+use mathlib.Core.Path.{_≡_, refl}
 use native.Mathlib.Omega.{arith}
 use Rattle.code.specs.Characters.{points}
 use Rattle.code.specs.Outcome.{Outcome, answer, refused}
 use Rattle.code.specs.Pair.{pair}
-use Rattle.extended.proofs.RecordRefusals.{few-reported, reportedBytes}
+use Rattle.extended.proofs.RecordRefusals.{few-reported}
+use Rattle.extended.specs.Reports.{reportedBytes}
 use Rattle.extended.specs.Extended.{Report, event, nothing, packet}
 use Rattle.extended.specs.State.{step}
 use Rattle.extended.specs.declared.class.Class.{Class}
@@ -24,13 +24,6 @@ use Rattle.lines.specs.declared.listing.Half.{Half}
 use Rattle.packet_lines.specs.Pieces.{Turn, anyText, byHalf, endWords, ofByte, ofEnd, refusedBy, countHalf}
 use Rattle.packet_lines.specs.Words.{characters, contentsWords, hexBytes, lastLine, lineOf, packetWords}
 use Rattle.packet_lines.specs.declared.listing.PacketListing.{PacketListing}
-
--- no more bytes than there are
-pub take-min : (n : ℕ) (bytes : List ℕ) → take (min n (length bytes)) bytes ≡ take n bytes
-take-min n bytes =
-    ap (λ (m : ℕ). take m bytes) (sym (length-take n bytes))
-    ∙ sym (take-take (length (take n bytes)) n bytes (omega (arith, length-take n bytes)))
-    ∙ take-length (take n bytes)
 
 hex-length : (bs : List ℕ) → length (hexBytes bs) ≡ length bs + length bs
 hex-length [] = refl

@@ -40,13 +40,13 @@ no-more-than-offered (a ∷ rest) l room =
     unless-stopped true few = omega arith
     unless-stopped false few = omega (arith, few)
 
--- where it goes on there is room
-room-there : (l : PacketListing) (room : ℕ) → stops l room ≡ false → anyText ≤ room
-room-there l room h = by (l .ended) h
+-- where a byte is taken the listing has not ended, and there is room
+pub goes-on : (l : PacketListing) (room : ℕ) → stops l room ≡ false → (l .ended ≡ false) × (anyText ≤ room)
+goes-on l room h = by (l .ended) refl h
   where
-    by : (t : Bool) → cond t true (ltb room anyText) ≡ false → anyText ≤ room
-    by true h = absurd (true≢false h)
-    by false h = ltb-false room anyText h
+    by : (t : Bool) → l .ended ≡ t → cond t true (ltb room anyText) ≡ false → (l .ended ≡ false) × (anyText ≤ room)
+    by true e h = absurd (true≢false h)
+    by false e h = (e, ltb-false room anyText h)
 
 pub no-more-than-room : (input : List ℕ) (l : PacketListing) (room : ℕ) → length (pieceOf l input room .text) ≤ room
 no-more-than-room [] l room = omega arith
@@ -56,11 +56,11 @@ no-more-than-room (a ∷ rest) l room =
     unless-stopped : (t : Bool) → stops l room ≡ t → length (pieceOf (ofByte l a .next) rest (room - length (ofByte l a .text)) .text) ≤ room - length (ofByte l a .text) → length (cond t (stays l) (afterByte (ofByte l a) (pieceOf (ofByte l a .next) rest (room - length (ofByte l a .text)))) .text) ≤ room
     unless-stopped true e few = omega arith
     unless-stopped false e few =
-        omega (arith, few, room-there l room e, a-byte-fits l a, length-append (ofByte l a .text) (pieceOf (ofByte l a .next) rest (room - length (ofByte l a .text)) .text))
+        omega (arith, few, goes-on l room e .1, a-byte-fits l a, length-append (ofByte l a .text) (pieceOf (ofByte l a .next) rest (room - length (ofByte l a .text)) .text))
 
 pub end-within-room : (l : PacketListing) (room : ℕ) → length (endOf l room .text) ≤ room
 end-within-room l room = by (stops l room) refl
   where
     by : (t : Bool) → stops l room ≡ t → length (cond t (stays l) (saidOnly (ofEnd l)) .text) ≤ room
     by true e = omega arith
-    by false e = omega (arith, the-end-fits l, room-there l room e)
+    by false e = omega (arith, the-end-fits l, goes-on l room e .1)

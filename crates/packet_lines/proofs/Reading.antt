@@ -2,11 +2,9 @@
 -- a byte and after it; where no byte is taken, it is what there is.
 -- Assumes nothing.
 use Prim.Native.Nat.{ℕ, _+_, _-_, _≤_, _<_}
-use borrow.Author.Tests.{ltb-false}
-use lib.Dec.{ltb}
 use lib.ListN.{drop, drop-of-length-le, getD, length}
 use lib.Seq.{drop-cons}
-use mathlib.Core.Bool.{Bool, true, false, cond, true≢false}
+use mathlib.Core.Bool.{Bool, true, false, cond}
 use mathlib.Core.List.{List, [], _∷_, _++_}
 use mathlib.Core.Path.{_≡_, refl, ap, ap₂, sym, _∙_}
 use native.Mathlib.Numerals.{add-one}
@@ -19,8 +17,8 @@ use Rattle.extended.specs.declared.state.Received.{Received}
 use Rattle.lines.proofs.Puts.{all-places, put-parts, puts-length}
 use Rattle.lines.specs.Put.{Placed, putAll}
 use Rattle.packet_lines.proofs.Bounds.{a-byte-fits, the-end-fits}
-use Rattle.packet_lines.proofs.Progress.{no-more-than-room}
-use Rattle.packet_lines.specs.Pieces.{Enters, Piece, Read, Says, afterByte, anyText, closed, counted, endPackets, ending, entryOutcome, ofByte, ofEnd, ofPair, pieceOf, readAs, readPackets, saidOnly, withoutEvent, stays, stops}
+use Rattle.packet_lines.proofs.Progress.{goes-on, no-more-than-room}
+use Rattle.packet_lines.specs.Pieces.{Enters, Piece, Read, Says, afterByte, closed, counted, endPackets, ending, entryOutcome, ofByte, ofEnd, ofPair, pieceOf, readAs, readPackets, saidOnly, withoutEvent, stays, stops}
 use Rattle.packet_lines.specs.Words.{lastLine, lineOf}
 use Rattle.packet_lines.specs.declared.listing.PacketListing.{PacketListing}
 use Rattle.packet_lines.specs.declared.listing.Said.{Said}
@@ -56,14 +54,6 @@ as-promised input l output e =
     ap answered e
     ∙ ap (λ (room : ℕ). answered (onceRead 0 (0, output) (pieceOf l input room))) whole
     ∙ ap₂ {C = Read} (λ (n : ℕ) (s : Placed). (n, s .0, p .next, s .1)) none (from-the-start output (p .text) (no-more-than-room input l (length output)))
-
--- a byte that is taken finds room
-goes-on : (l : PacketListing) (room : ℕ) → stops l room ≡ false → (l .ended ≡ false) × (anyText ≤ room)
-goes-on l room h = by (l .ended) refl h
-  where
-    by : (t : Bool) → l .ended ≡ t → cond t true (ltb room anyText) ≡ false → (l .ended ≡ false) × (anyText ≤ room)
-    by true e h = absurd (true≢false h)
-    by false e h = (e, ltb-false room anyText h)
 
 -- no byte more is taken
 stays-at : (taken : ℕ) (s : Placed) (l : PacketListing) (p : Piece) → p ≡ stays l → onceRead taken s p ≡ (taken, l, s)

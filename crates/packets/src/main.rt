@@ -6,9 +6,9 @@ ghost use mathlib.Core.Bool.{cond};
 ghost use mathlib.Core.Path.{_≡_};
 ghost use Prim.Native.Nat.{_≤_};
 ghost use lib.ListN.{length};
-ghost use Rattle.packet_lines.specs.Blocks.{wholeEnd, wholePiece};
+ghost use Rattle.lines.specs.AfterRead.{AfterRead};
+ghost use Rattle.packet_lines.specs.Blocks.{afterBlock, wholeEnd, wholePiece};
 ghost use Rattle.packet_lines.specs.Pieces.{anyText};
-ghost use Rattle.packets.specs.Block.{AfterRead};
 use libc::STDERR_FILENO;
 use libc::STDIN_FILENO;
 use libc::STDOUT_FILENO;
@@ -94,7 +94,7 @@ fn list_block(
     begun: PacketListing,
 ) -> Done
     requires { ⌜ anyText ≤ length (now output) ⌝ }
-    ensures { λ r. ⌜ AfterRead got error begun (now (input .entry)) r ⌝ }
+    ensures { λ r. ⌜ AfterRead afterBlock got error begun (now (input .entry)) (r .failed) (r .listing) ⌝ }
 {
     if got < 0 {
         let failed = error != libc::EINTR;

@@ -5,14 +5,12 @@ use crate::queue::is_command;
 use crate::sender::is_odd;
 use std::collections::BTreeMap;
 
-/// A set that never came to one of these would say nothing of it.
-const CASES: [&str; 42] = [
+/// A set that never came to one of these would say nothing of it. The first are what one pair from a chosen state can come
+/// upon; for the others it takes several pairs.
+const BY_ONE_PAIR: [&str; 22] = [
     "1",
     "1 in a packet",
     "13: an end, and no packet",
-    "13: an end after an end",
-    "13: an end after 14",
-    "13: an end after 15",
     "13: an end of an interrupted packet, its sum right",
     "13: an end of an interrupted packet, its sum wrong",
     "13: a continuation, no packet of its class, none open",
@@ -26,26 +24,31 @@ const CASES: [&str; 42] = [
     "15: no contents",
     "15: full",
     "15: contents",
+    "contents: 00 and a byte",
+    "contents: a second byte of 01 to 1F",
+    "start in captions",
+    "start in another class's packet",
+    "start over a packet of another type",
+    "event: text while a packet is interrupted",
+];
+const BY_SEVERAL: [&str; 20] = [
+    "13: an end after an end",
+    "13: an end after 14",
+    "13: an end after 15",
     "packet: no contents",
     "packet: full",
     "packet: contents",
     "packet: continued after a command",
     "packet: continued after another class",
     "packet: continued while open",
-    "contents: 00 and a byte",
     "contents: a byte and 00",
-    "contents: a second byte of 01 to 1F",
     "contents: filler alone",
     "contents: filler alone, in a packet that is full",
     "dropped after an end",
     "dropped after 14",
     "dropped after 15",
-    "start in captions",
-    "start in another class's packet",
     "start over a packet of its type",
-    "start over a packet of another type",
     "event: a command in a packet",
-    "event: text while a packet is interrupted",
     "event: text after a refused continuation",
     "event: a command again after a packet's pair",
     "nothing: a command again after a refusal",
@@ -101,14 +104,18 @@ pub struct Met {
 }
 
 impl Met {
+    /// Every case was met so often.
     pub fn reached_everything(&self, least: usize) {
-        self.reached(&CASES, least);
+        self.reached_by_one_pair(least);
+        self.reached(&BY_SEVERAL, least);
     }
 
-    /// Every case of a list was met so often.
-    pub fn reached(&self, cases: &[&str], least: usize) {
+    pub fn reached_by_one_pair(&self, least: usize) {
+        self.reached(&BY_ONE_PAIR, least);
+    }
+
+    fn reached(&self, cases: &[&str], least: usize) {
         for case in cases {
-            assert!(CASES.contains(case), "{case} is not in the list");
             let count = self.counts.get(case).copied().unwrap_or(0);
             assert!(count >= least, "too few of {case}: {count}");
         }
@@ -167,7 +174,8 @@ impl Met {
             Ok(Report::Nothing) => self.silent(&before),
         };
         for case in cases {
-            assert!(CASES.contains(&case), "{case} is not in the list");
+            let is_listed = BY_ONE_PAIR.contains(&case) || BY_SEVERAL.contains(&case);
+            assert!(is_listed, "{case} is not in the lists");
             *self.counts.entry(case).or_default() += 1;
         }
         self.packets += usize::from(matches!(answer, Ok(Report::Finished(..))));

@@ -192,35 +192,9 @@ pub fn pairs(to: &mut Transcript) {
         }
         asked.read_back();
     }
-    asked.met.reached(&FROM_CHOSEN, 1);
+    asked.met.reached_by_one_pair(1);
     print!("{}: ", asked.met.counted());
 }
-
-/// What one pair from a chosen state can come upon.
-const FROM_CHOSEN: [&str; 22] = [
-    "1",
-    "1 in a packet",
-    "13: an end, and no packet",
-    "13: an end of an interrupted packet, its sum right",
-    "13: an end of an interrupted packet, its sum wrong",
-    "13: a continuation, no packet of its class, none open",
-    "13: a continuation, no packet of its class, another open",
-    "13: a continuation with another type, none open",
-    "13: a continuation with another type, in a packet",
-    "13: a continuation with another type, in a packet that is full",
-    "14: the second byte of a pair",
-    "14: one byte",
-    "14: both bytes",
-    "15: no contents",
-    "15: full",
-    "15: contents",
-    "contents: 00 and a byte",
-    "contents: a second byte of 01 to 1F",
-    "start in captions",
-    "start in another class's packet",
-    "start over a packet of another type",
-    "event: text while a packet is interrupted",
-];
 
 fn from_chosen(asked: &mut Asked, chosen: &Chosen, pair: Pair) {
     if asked.is_unread {

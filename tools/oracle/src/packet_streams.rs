@@ -4,12 +4,11 @@
 use crate::extended::Model;
 use crate::extended_feed::{end, start, Feed};
 use crate::extended_sets::{after_two, open_with, AB, KIND, SUM_OF_TWO};
-use crate::listing::MOST_PAIRS;
 use crate::packet_lines::text;
 use crate::random::Fill::{FromSeed, Whole};
 use crate::random::Random;
-use crate::receiver::{PADDING, ROLL_UP_2};
-use crate::streams::{of_any_bytes, Pair, Stream, Streams};
+use crate::receiver::ROLL_UP_2;
+use crate::streams::{edge_lengths, of_any_bytes, up_to_the_limit, Pair, Stream, Streams};
 use crate::zvbi;
 
 pub const SETS: [(&str, Streams); 8] = [
@@ -154,15 +153,10 @@ fn short(random: &mut Random) -> Vec<Stream> {
     streams
 }
 
-/// Lengths next to the powers of two, which a buffer's length is likely to be.
 fn edges(random: &mut Random) -> Vec<Stream> {
-    let mut streams = vec![];
-    for power in 8..=17 {
-        for length in (1 << power) - 1..=(1 << power) + 2 {
-            streams.push(of_a_feed(random, length));
-        }
-    }
-    streams
+    edge_lengths()
+        .map(|length| of_a_feed(random, length))
+        .collect()
 }
 
 /// Streams that come to the program a few bytes at a time, for which tools/compare sees.
@@ -185,14 +179,7 @@ fn long(random: &mut Random) -> Vec<Stream> {
     ]
 }
 
-/// Padding up to the limit of pairs but for a packet whose end is the last pair: half a pair too few, as many as may be, a
-/// byte too many, and a pair too many.
+/// The end of a packet is the last pair.
 fn limit() -> Vec<Stream> {
-    let most = MOST_PAIRS as usize * 2;
-    let mut all = PADDING.repeat(MOST_PAIRS as usize + 1);
-    let packet = [start(1, KIND), AB, end(SUM_OF_TWO)].concat();
-    all[most - packet.len()..most].copy_from_slice(&packet);
-    (most - 1..=most + 2)
-        .map(|length| all[..length].to_vec())
-        .collect()
+    up_to_the_limit(&[start(1, KIND), AB, end(SUM_OF_TWO)].concat())
 }

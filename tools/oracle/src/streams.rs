@@ -115,16 +115,16 @@ fn short(random: &mut Random) -> Vec<Stream> {
     streams
 }
 
+fn edges(random: &mut Random) -> Vec<Stream> {
+    edge_lengths()
+        .map(|length| of_a_line(random, length))
+        .collect()
+}
+
 /// Lengths next to the powers of two, which a buffer's length is likely to be; even ones, and odd ones, which end with
 /// half a pair.
-fn edges(random: &mut Random) -> Vec<Stream> {
-    let mut streams = Vec::new();
-    for power in 8..=17 {
-        for length in (1 << power) - 1..=(1 << power) + 2 {
-            streams.push(of_a_line(random, length));
-        }
-    }
-    streams
+pub fn edge_lengths() -> impl Iterator<Item = usize> {
+    (8..=17).flat_map(|power| (1 << power) - 1..=(1 << power) + 2)
 }
 
 /// Streams that come to the program a few bytes at a time, for which tools/compare sees.
@@ -148,12 +148,16 @@ fn long(random: &mut Random) -> Vec<Stream> {
     ]
 }
 
-/// Padding up to the limit of pairs but for the last pair: half a pair too few, as many as may be, a byte too many, and
-/// a pair too many.
 fn limit() -> Vec<Stream> {
+    up_to_the_limit(&ON_CHANNEL_ONE)
+}
+
+/// Padding up to the limit of pairs but for these last ones: half a pair too few, as many as may be, a byte too many, and a
+/// pair too many.
+pub fn up_to_the_limit(last: &[u8]) -> Vec<Stream> {
     let most = MOST_PAIRS as usize * 2;
     let mut all = PADDING.repeat(MOST_PAIRS as usize + 1);
-    all[most - 2..most].copy_from_slice(&ON_CHANNEL_ONE);
+    all[most - last.len()..most].copy_from_slice(last);
     (most - 1..=most + 2)
         .map(|length| all[..length].to_vec())
         .collect()

@@ -1,8 +1,12 @@
 -- `listing::list_block` meets its contract, by whether the read failed, and whether it read any bytes.
 -- Assumes nothing.
 use borrow.Author.Needs.{needs}
+use mathlib.Core.Path.{refl}
 use native.Mathlib.Omega.{arith}
-use Rattle.listing.proofs.Blocks.{after-some, after-the-end, of-bytes, of-nothing}
+use Rattle.io.specs.Counts.{clamped}
+use Rattle.lines.proofs.AfterRead.{of-bytes, of-nothing}
+use Rattle.lines.specs.Loops.{afterBlock}
+use Rattle.listing.proofs.Blocks.{after-some, after-the-end}
 use Rattle.listing.proofs.list_block.Statement.{statement}
 use Rattle.listing.proofs.list_block.Tie as tie
 
@@ -12,12 +16,12 @@ fail-requires c κs = search needs
 returns : tie.Need-returns
 returns c =
     let start = c .before .before .before .before .before .before in
-    of-nothing (start .args .got) (start .args .error) (start .fits .got) (start .args .begun) (start .args .input .now) (start .fits .error) (c .before .before .if1 .taken)
+    of-nothing afterBlock (start .args .got) (start .args .error) (start .fits .got) (start .args .begun) (start .args .input .now) (start .fits .error) (c .before .before .if1 .taken)
 
 returns-2 : tie.Need-returns-2
 returns-2 c =
     let start = c .before .before .before .before .before in
-    of-nothing (start .args .got) (start .args .error) (start .fits .got) (start .args .begun) (start .args .input .now) (start .fits .error) (c .before .if1 .taken)
+    of-nothing afterBlock (start .args .got) (start .args .error) (start .fits .got) (start .args .begun) (start .args .input .now) (start .fits .error) (c .before .if1 .taken)
 
 count-requires : tie.Need-count-requires
 count-requires c κs = search needs
@@ -39,7 +43,7 @@ returns-3 c =
     let start = c .before .before .before .before .before .before .before .before .before .before .before .before in
     let read = c .before .before .before .before .before .before .before .count in
     let test = c .before .before .before .before .before .before .before .before .if1 in
-    of-bytes (start .args .got) (start .args .error) (start .fits .got) (start .args .begun) (start .args .input .now) (c .before .before .write-lines .result) (read .result) (test .left) (read .ensures .1)
+    of-bytes afterBlock (start .args .got) (start .args .error) (start .fits .got) (start .args .begun) (start .args .input .now) clamped (λ k n. refl) (c .before .before .write-lines .result .failed) (c .before .before .write-lines .result .listing) (read .result) (test .left) (read .ensures .1)
     (λ fine. after-the-end (start .args .begun) _ _ _ _ fine (c .before .before .before .before .before .before .if3 .taken) _ (c .before .before .before .end .ensures) (c .before .before .write-lines .ensures))
 
 slice-aggregate-write-lines-2 : tie.Need-slice-aggregate-write-lines-2
@@ -56,7 +60,7 @@ returns-4 c =
     let start = c .before .before .before .before .before .before .before .before .before .before .before in
     let read = c .before .before .before .before .before .before .count in
     let test = c .before .before .before .before .before .before .before .if1 in
-    of-bytes (start .args .got) (start .args .error) (start .fits .got) (start .args .begun) (start .args .input .now) (c .before .before .write-lines2 .result) (read .result) (test .left) (read .ensures .1)
+    of-bytes afterBlock (start .args .got) (start .args .error) (start .fits .got) (start .args .begun) (start .args .input .now) clamped (λ k n. refl) (c .before .before .write-lines2 .result .failed) (c .before .before .write-lines2 .result .listing) (read .result) (test .left) (read .ensures .1)
     (λ fine. after-some (start .args .begun) _ _ _ _ fine (omega (arith, c .before .before .before .before .before .if3 .left)) (read .ensures .0 .0) (c .before .before .write-lines2 .ensures))
 
 pub list-block-spec : {M : Type 1} → statement M

@@ -7,8 +7,8 @@ use lib.Seq.{length-take-le}
 use mathlib.Core.List.{List}
 use mathlib.Core.Path.{ap, sym, _∙_}
 use native.Mathlib.Omega.{arith}
+use Rattle.lines.proofs.FirstBytes.{take-min}
 use Rattle.lines.specs.Put.{putAll}
-use Rattle.packet_lines.proofs.Bounds.{take-min}
 use Rattle.packet_lines.proofs.words.put_first.Statement.{statement}
 use Rattle.packet_lines.proofs.words.put_first.Tie as tie
 use Rattle.packet_lines.specs.Words.{contentsWords}
