@@ -10,7 +10,7 @@ use lib.Dec.{eqb}
 use Rattle.code.proofs.Agree.{agree_from, agree_grid}
 use Rattle.code.proofs.Both.{both_true}
 use Rattle.code.proofs.Ranges.{command_range}
-use Rattle.code.proofs.Written.{command_by_first_byte, command_of_its_bytes}
+use Rattle.code.proofs.WrittenLemmas.{command_by_first_byte, command_of_its_bytes}
 use Rattle.code.specs.ByBytes.{CommandOf, backspace_by_bytes, channel_by_byte, field_by_bytes}
 use Rattle.code.specs.Code.{needs_backspace}
 use Rattle.code.specs.Outcome.{answer}

@@ -11,7 +11,7 @@ use Rattle.code.proofs.Agree.{agree}
 use Rattle.code.proofs.Both.{both_left, both_right}
 use Rattle.code.proofs.Numbers.{letter_small}
 use Rattle.code.proofs.Ranges.{command_range}
-use Rattle.code.proofs.Written.{data_kept}
+use Rattle.code.proofs.WrittenLemmas.{data_kept}
 use Rattle.code.specs.Control.{names_field}
 use Rattle.code.specs.Letter.{letter_place}
 use Rattle.code.specs.Outcome.{Outcome, answer, refused}
@@ -27,7 +27,6 @@ use Rattle.code.specs.declared.code.Code.TheVariants as code
 use Rattle.code.specs.declared.control.CodeField.{CodeField}
 use Rattle.code.specs.declared.control.Control.{Control}
 use Rattle.code.specs.declared.control.Control.TheVariants as control
-use Rattle.code.specs.declared.letter.Letter.{Letter}
 use Rattle.code.specs.declared.pair.Pair.{Pair}
 use Rattle.code.specs.declared.preamble.PreambleAddressCode.{PreambleAddressCode}
 use Rattle.code.specs.declared.symbol.Symbol.{Symbol}

@@ -23,4 +23,4 @@ pub mod ReadBack
 pub mod RoundTrip
 pub mod SamePair
 pub mod TableRules
-pub mod Written
+pub mod WrittenLemmas

@@ -15,7 +15,7 @@ use Rattle.code.proofs.KindByKind.{bytes_written, letter_written}
 use Rattle.code.proofs.MeantBack.{command_meant, command_pair, is_pair_of_control, meant, mid_row_meant, mid_row_pair, preamble_meant, preamble_pair, symbol_meant, symbol_pair, tab_meant, tab_pair}
 use Rattle.code.proofs.Numbers.{letter_again, letter_small}
 use Rattle.code.proofs.Ranges.{command_range, still_between}
-use Rattle.code.proofs.Written.{data_kept, read_as_command, read_as_text, with_parity_lem}
+use Rattle.code.proofs.WrittenLemmas.{data_kept, read_as_command, read_as_text, with_parity_lem}
 use Rattle.code.specs.Channel.{channel_one, channel_two, field_one, field_two}
 use Rattle.code.specs.Control.{names_field}
 use Rattle.code.specs.Letter.{letter_at, letter_place}
@@ -183,7 +183,7 @@ by_bytes f ch c p bytes fits means =
       pair = on_line f ch p;
       written = bytes_written (record { field = f; channel = ch; control = c }) p bytes;
       read = bytes_read_back f ch p.0 p.1 c from below less means;
-      is_command_lem = sent_as_command f ch p.0 p.1 c from below less means;
+      is_a_command = sent_as_command f ch p.0 p.1 c from below less means;
     }
 
 pub mid_row_reads_back : (f : CodeField) (ch : Channel) (m : MidRow) → ReadsBack f ch (control.MidRow m)

@@ -35,7 +35,7 @@ pub record ReadsBack (f : CodeField) (ch : Channel) (c : Control) : Type 0 where
   pub pair : Pair
   pub written : write_code (code.Control (record { field = f; channel = ch; control = c })) ≡ answer (pair, 2)
   pub read : read_pair pair.0 pair.1 ≡ answer (code.Control (record { field = field_read f c; channel = ch; control = c }), code.Nul)
-  pub is_command_lem : is_command_pair pair ≡ true
+  pub is_a_command : is_command_pair pair ≡ true
 
 -- NUL and letters
 abbrev pub is_plain : Code → Bool

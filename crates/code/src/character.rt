@@ -12,14 +12,14 @@ use crate::symbol::Symbol;
 use crate::tables::{Found, code_table, control_table, find_point, point_at};
 
 // The code point of a code, where it has one.
-#[derive(Drop)]
+#[derive(Clone, Copy)]
 pub enum Character {
     Point(u32),
     Absent,
 }
 
 // The code of a character. `NoSuchCharacter` is refusal 5.
-#[derive(Drop)]
+#[derive(Clone, Copy)]
 pub enum FromChar {
     Made(Code),
     NoSuchCharacter,
@@ -40,6 +40,7 @@ impl Character {
 
 impl Letter {
     // The letter's character.
+    #[tactic(auto, using(crate::proofs::Bytes::letter_point, crate::proofs::Numbers::letter_small))]
     pub(crate) fn char(self) -> Character
         ensures { result ≡ letter_char self }
     {
@@ -49,6 +50,7 @@ impl Letter {
 
 impl Symbol {
     // The symbol's character; the transparent space has none.
+    #[tactic(auto, using(crate::proofs::Bytes::symbol_point, crate::proofs::Numbers::symbol_small))]
     pub(crate) fn char(self) -> Character
         ensures { result ≡ symbol_char self }
     {
@@ -58,6 +60,7 @@ impl Symbol {
 
 impl Code {
     // The character that a receiver shows for the code, if any.
+    #[tactic(auto, unfolding(crate::specs::Code::char_of))]
     pub fn char(self) -> Character
         ensures { result ≡ char_of self }
     {

@@ -2,7 +2,7 @@
 ghost use Rattle.std.specs.Prelude.{◌≡◌, ◌<◌};
 ghost use Rattle.code.specs.Color.{color_at, color_number};
 
-#[derive(Drop)]
+#[derive(Clone, Copy)]
 pub enum Color {
     White,
     Green,

@@ -2,7 +2,7 @@
 ghost use Rattle.std.specs.Prelude.{◌≡◌, ◌<◌};
 ghost use Rattle.code.specs.Column.{column_at, column_number};
 
-#[derive(Drop)]
+#[derive(Clone, Copy)]
 pub enum Column {
     C0,
     C1,

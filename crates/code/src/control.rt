@@ -9,7 +9,7 @@ use crate::preamble::PreambleAddressCode;
 use crate::symbol::Symbol;
 
 // The miscellaneous control codes 14 20 to 14 2F, in their order.
-#[derive(Drop)]
+#[derive(Clone, Copy)]
 pub enum Command {
     // Pop-on: what follows is loaded out of sight.
     ResumeCaptionLoading,
@@ -46,14 +46,14 @@ pub enum Command {
 }
 
 // The tab offsets 17 21 to 17 23.
-#[derive(Drop)]
+#[derive(Clone, Copy)]
 pub enum Tab {
     TabOffset1,
     TabOffset2,
     TabOffset3,
 }
 
-#[derive(Drop)]
+#[derive(Clone, Copy)]
 pub enum Control {
     MidRow(MidRow),
     Symbol(Symbol),
@@ -65,20 +65,20 @@ pub enum Control {
 }
 
 // A tab offset made from its count. `NoSuchTab` is refusal 4.
-#[derive(Drop)]
+#[derive(Clone, Copy)]
 pub enum TabOffset {
     Made(Control),
     NoSuchTab,
 }
 
 // The field that a control code names. In reading, only 14 and 15 before 20 to 2F name one.
-#[derive(Drop)]
+#[derive(Clone, Copy)]
 pub enum CodeField {
     Of(Field),
     Absent,
 }
 
-#[derive(Drop)]
+#[derive(Clone, Copy)]
 pub struct ControlCode {
     pub field: CodeField,
     pub channel: Channel,

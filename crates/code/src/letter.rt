@@ -5,7 +5,7 @@ ghost use Rattle.code.specs.Letter.{letter_row_at, letter_row_number, letter_at,
 use crate::column::Column;
 
 // The rows, by the high digit of the byte.
-#[derive(Drop)]
+#[derive(Clone, Copy)]
 pub enum LetterRow {
     Row2,
     Row3,
@@ -15,7 +15,7 @@ pub enum LetterRow {
     Row7,
 }
 
-#[derive(Drop)]
+#[derive(Clone, Copy)]
 pub struct Letter {
     pub row: LetterRow,
     pub column: Column,

@@ -1,6 +1,8 @@
 // What a byte pair on line 21 means, and how a code is written into one: parity, the standard characters, the control
 // codes, and reading and writing a pair. Everything above this crate knows pairs only by what is promised here.
 
+#![tactic(auto)]
+
 pub mod channel;
 pub mod character;
 pub mod code;

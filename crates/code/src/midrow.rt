@@ -4,20 +4,20 @@ ghost use Rattle.code.specs.MidRow.{mid_row_at, mid_row_number, colored, italic,
 
 use crate::color::Color;
 
-#[derive(Drop)]
+#[derive(Clone, Copy)]
 pub enum MidRowColor {
     Color(Color),
     Italics,
 }
 
-#[derive(Drop)]
+#[derive(Clone, Copy)]
 pub struct MidRow {
     pub color: MidRowColor,
     pub underline: bool,
 }
 
 // The colour that a mid-row code sets: italics leave it as it is.
-#[derive(Drop)]
+#[derive(Clone, Copy)]
 pub enum MaybeColor {
     Color(Color),
     Absent,

@@ -1,3 +1,3 @@
 // The two bytes that one field of a picture carries.
-#[derive(Drop)]
+#[derive(Clone, Copy)]
 pub struct Pair(pub u8, pub u8);

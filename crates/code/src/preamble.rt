@@ -6,7 +6,7 @@ ghost use Rattle.code.specs.Preamble.{new_preamble, new_preamble_outcome, row_in
 use crate::color::Color;
 
 // The sixteen styles. An indent is white and not in italics.
-#[derive(Drop)]
+#[derive(Clone, Copy)]
 pub enum PreambleType {
     Color(Color),
     WhiteItalics,
@@ -21,14 +21,14 @@ pub enum PreambleType {
 }
 
 // The column that an indent starts at; a colour and white italics have none.
-#[derive(Drop)]
+#[derive(Clone, Copy)]
 pub enum MaybeIndent {
     Indent(u8),
     Absent,
 }
 
 // A style made from an indent. `NoSuchIndent` is refusal 8.
-#[derive(Drop)]
+#[derive(Clone, Copy)]
 pub enum FromIndent {
     Made(PreambleType),
     NoSuchIndent,
@@ -129,7 +129,7 @@ impl PreambleType {
 
 // A row of 0 to 14 on the screen, counted from the top, and its style. A row above 14 is no row: no constructor makes
 // one, and a code that holds one is not written.
-#[derive(Drop)]
+#[derive(Clone, Copy)]
 pub struct PreambleAddressCode {
     pub row: u8,
     pub underline: bool,
@@ -137,7 +137,7 @@ pub struct PreambleAddressCode {
 }
 
 // A preamble made from its parts. `NoSuchRow` is refusal 3.
-#[derive(Drop)]
+#[derive(Clone, Copy)]
 pub enum NewPreamble {
     Made(PreambleAddressCode),
     NoSuchRow,

@@ -5,7 +5,7 @@ ghost use Rattle.code.specs.Symbol.{symbol_row_at, symbol_row_number, symbol_at,
 use crate::column::Column;
 
 // The rows, in the order of their bytes.
-#[derive(Drop)]
+#[derive(Clone, Copy)]
 pub enum SymbolRow {
     // 11 30 to 11 3F.
     Special,
@@ -19,7 +19,7 @@ pub enum SymbolRow {
     German,
 }
 
-#[derive(Drop)]
+#[derive(Clone, Copy)]
 pub struct Symbol {
     pub row: SymbolRow,
     pub column: Column,

@@ -231,6 +231,7 @@ pub(crate) const CONTROL_MAP_TABLE: [u32; 99] = [
 ];
 
 // The table of characters: its bytes and code points are the definition's.
+#[tactic(auto, unfolding(crate::specs::Tables::code_entries, crate::specs::Characters::standard))]
 pub(crate) fn code_table() -> [u32; 97]
     ensures { result ≡ code_entries }
 {
@@ -238,6 +239,7 @@ pub(crate) fn code_table() -> [u32; 97]
 }
 
 // The control table, likewise.
+#[tactic(auto, unfolding(crate::specs::Tables::control_entries))]
 pub(crate) fn control_table() -> [u32; 99]
     ensures { result ≡ control_entries }
 {
@@ -245,7 +247,7 @@ pub(crate) fn control_table() -> [u32; 99]
 }
 
 // Where a search found what it looked for.
-#[derive(Drop)]
+#[derive(Clone, Copy)]
 pub(crate) enum Found {
     At(usize),
     Absent,
@@ -276,6 +278,7 @@ pub(crate) fn row_prefix(row: u8) -> Pair
 
 // The code point at a place: the standard characters, then the symbols, 0 for the transparent space. Reading looks up two
 // a pair, and a `match` is one load, where a const array would be copied to the stack for each.
+#[tactic(auto, unfolding(crate::specs::Characters::standard, crate::specs::Characters::symbols))]
 pub(crate) fn point_at(place: u8) -> u32
     requires { place < 176 }
     ensures { result ≡ get_or all_points place 0 }

@@ -17,7 +17,7 @@ use crate::symbol::{Symbol, SymbolRow};
 use crate::tables::row_prefix;
 
 // A written pair and how many of its bytes the code fills. `UnknownByte` is refusal 2, `NoSuchRow` refusal 3.
-#[derive(Drop)]
+#[derive(Clone, Copy)]
 pub enum Written {
     Made(Pair, usize),
     UnknownByte,
@@ -25,7 +25,7 @@ pub enum Written {
 }
 
 // Whether a code can be written. `UnknownByte` is refusal 2, `NoSuchRow` refusal 3.
-#[derive(Drop)]
+#[derive(Clone, Copy)]
 pub enum Domain {
     Inside,
     UnknownByte,
@@ -33,14 +33,14 @@ pub enum Domain {
 }
 
 // The two bytes of a preamble. `NoSuchRow` is refusal 3.
-#[derive(Drop)]
+#[derive(Clone, Copy)]
 pub enum RowBytes {
     Are(Pair),
     NoSuchRow,
 }
 
 // The two bytes of a control, channel, field and parity aside, or its refusal.
-#[derive(Drop)]
+#[derive(Clone, Copy)]
 pub(crate) enum Bytes {
     Are(Pair),
     UnknownByte,
@@ -49,6 +49,7 @@ pub(crate) enum Bytes {
 
 impl Code {
     // The pair that the code is sent as: a single code with NUL after it, a command by itself.
+    #[tactic(auto, using(crate::proofs::Numbers::letter_small), unfolding(crate::specs::Write::write_code))]
     pub fn write(self) -> Written
         ensures { written_outcome result ≡ write_code self }
     {
@@ -69,6 +70,7 @@ impl Code {
 
 impl Code {
     // Whether the code can be written, without writing it.
+    #[tactic(auto, unfolding(crate::specs::Write::in_domain))]
     pub fn domain(self) -> Domain
         ensures { domain_outcome result ≡ in_domain self }
     {
@@ -138,6 +140,7 @@ impl ControlCode {
 }
 
 // Two bytes with their field, channel and parity.
+#[tactic(auto, unfolding(crate::specs::Write::on_line))]
 pub fn on_line(field: CodeField, channel: Channel, bytes: Pair) -> Pair
     ensures { result ≡ on_line field channel bytes }
 {
@@ -182,6 +185,7 @@ pub(crate) fn with_channel(channel: Channel, first: u8) -> u8
 
 impl Control {
     // The two bytes of a control, channel, field and parity aside.
+    #[tactic(auto, unfolding(crate::specs::Write::control_bytes))]
     pub(crate) fn bytes(self) -> Bytes
         ensures { bytes_outcome result ≡ control_bytes self }
     {
