@@ -1,5 +1,5 @@
 pub mod OneAnswer
 pub mod Back
-pub mod IntoCode
+pub mod IntoCodeLemmas
 pub mod Services
 pub mod KnownPairs

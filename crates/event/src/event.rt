@@ -6,7 +6,7 @@ use crate::mode::Mode;
 use code::{Channel, Character, MidRow, PreambleAddressCode};
 
 // One or two characters for a channel.
-#[derive(Drop)]
+#[derive(Clone, Copy)]
 pub struct Text {
     // Whether the characters take the place of the one before them.
     pub needs_backspace: bool,
@@ -15,7 +15,7 @@ pub struct Text {
     pub channel: Channel,
 }
 
-#[derive(Drop)]
+#[derive(Clone, Copy)]
 pub enum Cea608 {
     // Characters.
     Text(Text),

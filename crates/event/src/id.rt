@@ -4,7 +4,7 @@ ghost use Rattle.event.specs.Id.{id_of, field_of_id, channel_of_id, from_value, 
 
 use code::{Channel, Field};
 
-#[derive(Drop)]
+#[derive(Clone, Copy)]
 pub enum Id {
     // Field one, channel one.
     CC1,
@@ -17,7 +17,7 @@ pub enum Id {
 }
 
 // A service by its number. `NoSuchId` is refusal 6.
-#[derive(Drop)]
+#[derive(Clone, Copy)]
 pub enum FromValue {
     Made(Id),
     NoSuchId,

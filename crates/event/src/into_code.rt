@@ -12,7 +12,7 @@ use code::{
 
 // The codes of an event, or why it has none: `NoSuchRow` is refusal 3, `NoSuchTab` 4, and `NoSuchFirst` and
 // `NoSuchSecond` are 5, for the first and for the second character.
-#[derive(Drop)]
+#[derive(Clone, Copy)]
 pub enum IntoCode {
     Codes(Code, Code),
     NoSuchRow,
@@ -23,6 +23,7 @@ pub enum IntoCode {
 
 impl Cea608 {
     // The event's codes for a field: a control code and NUL, or two characters, NUL for one that is absent.
+    #[tactic(auto, unfolding(crate::specs::IntoCode::codes_of))]
     pub fn into_code(self, field: Field) -> IntoCode
         ensures { into_code_outcome result ≡ codes_of self field }
     {

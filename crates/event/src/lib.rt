@@ -1,6 +1,8 @@
 // What a caption decoder reports: the eleven events with their channel, the presentation modes and the caption
 // services; and an event turned back into codes.
 
+#![tactic(auto)]
+
 pub mod event;
 pub mod id;
 pub mod into_code;

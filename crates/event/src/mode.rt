@@ -4,7 +4,7 @@ ghost use Rattle.event.specs.Mode.{is_rollup, rollup_rows, rollup_rows_outcome, 
 
 use code::Command;
 
-#[derive(Drop)]
+#[derive(Clone, Copy)]
 pub enum Mode {
     // Captions are loaded out of sight and shown all at once.
     PopOn,
@@ -19,14 +19,14 @@ pub enum Mode {
 }
 
 // The rows of a roll-up window; the other modes have none.
-#[derive(Drop)]
+#[derive(Clone, Copy)]
 pub enum RollupRows {
     Rows(u8),
     Absent,
 }
 
 // The mode that a command begins, where it begins one.
-#[derive(Drop)]
+#[derive(Clone, Copy)]
 pub enum FromCommand {
     Begins(Mode),
     Absent,
@@ -34,6 +34,7 @@ pub enum FromCommand {
 
 impl Mode {
     // The mode that a command begins.
+    #[tactic(auto, unfolding(crate::specs::Mode::mode_of))]
     pub fn from_command(command: Command) -> FromCommand
         ensures { from_command_outcome result ≡ mode_of command }
     {

@@ -14,7 +14,7 @@ use Rattle.code.proofs.BothWays.{a_letter_has_a_character, a_letter_is_its_chara
 use Rattle.code.proofs.OneAnswer.{clash, same}
 use Rattle.code.proofs.ReadBack.{symbol_reads_back}
 use Rattle.code.proofs.RoundTrip.{row_that_was_read}
-use Rattle.code.proofs.Written.{read_as_command}
+use Rattle.code.proofs.WrittenLemmas.{read_as_command}
 use Rattle.code.specs.Code.{char_of, symbol_char}
 use Rattle.code.specs.Control.{control_code}
 use Rattle.code.specs.Letter.{letter_at}

@@ -54,13 +54,13 @@ control_reported g f ch c e back is on named = (
   record {
     pair = back.pair;
     written = ap₂ together back.written nul_written;
-    command_decoded = λ is_command_lem s other.
+    command_decoded = λ is_a_command s other.
         command_acts s back.pair (record { field = field_read g c; channel = ch; control = c }) (code.Nul, back.read) other
         ∙ ap₂ {C = Stepped} (λ (o : Option Cea608) (d : Channel). (answer o, state (last.Was back.pair) (channel.Known d) (field_after (field_read g c) (last_field s)))) is on
         ∙ ap {B = Stepped} (λ (h : CodeField). (answer (some e), state (last.Was back.pair) (channel.Known (channel_of_event e)) (field_after h (last_field s)))) named;
-    text_decoded = λ is_text_lem s on_it. absurd (true≢false (sym back.is_command_lem ∙ is_text_lem));
+    text_decoded = λ is_text_lem s on_it. absurd (true≢false (sym back.is_a_command ∙ is_text_lem));
   },
-  back.is_command_lem,
+  back.is_a_command,
 )
 
 -- its two codes are what was handed in

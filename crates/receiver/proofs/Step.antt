@@ -7,7 +7,7 @@ use mathlib.Core.Option.{none}
 use mathlib.Core.Path.{◌≡◌, refl, ap, sym, subst, ◌∙◌}
 use Prim.Native.Nat.{ℕ}
 use Rattle.code.proofs.OneAnswer.{clash}
-use Rattle.code.proofs.Written.{even_is_refused, odd_is_read, read_as_text, single_is_no_command}
+use Rattle.code.proofs.WrittenLemmas.{even_is_refused, odd_is_read, read_as_text, single_is_no_command}
 use Rattle.code.specs.Code.{symbol_char}
 use Rattle.code.specs.Outcome.{Outcome, answer, refused}
 use Rattle.code.specs.Parity.{is_odd, stripped}

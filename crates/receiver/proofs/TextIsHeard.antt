@@ -63,7 +63,7 @@ unfolding step
 plain_reported t f x y back as_text_lem is = record {
   pair = back.pair;
   written = back.written;
-  command_decoded = λ is_command_lem s other. absurd (true≢false (sym is_command_lem ∙ back.no_command));
+  command_decoded = λ is_a_command s other. absurd (true≢false (sym is_a_command ∙ back.no_command));
   text_decoded = λ is_text_lem s on.
       ap (after_reading s back.pair) back.read
       ∙ as_text_lem s back.pair

@@ -8,7 +8,7 @@ use code::{Channel, Character, Code, Command, Control, ControlCode, Symbol};
 use event::{Cea608, FromCommand, Mode, Text};
 
 // What a pair gives: an event, nothing, or refusal 1.
-#[derive(Drop)]
+#[derive(Clone, Copy)]
 pub enum Heard {
     Event(Cea608),
     Nothing,
@@ -16,6 +16,7 @@ pub enum Heard {
 }
 
 // The event of a control code, if it has one.
+#[tactic(auto, unfolding(crate::specs::Heard::event_of))]
 pub(crate) fn event_of(code: ControlCode) -> Heard
     ensures { heard_outcome result ≡ answer (event_of code) }
 {
@@ -76,6 +77,7 @@ fn mode_event(channel: Channel, command: Command) -> Heard
 }
 
 // Two single codes as text for a channel, where either has a character.
+#[tactic(auto, unfolding(crate::specs::Heard::text_event))]
 pub(crate) fn text_event(channel: Channel, first: Code, second: Code) -> Heard
     ensures { heard_outcome result ≡ answer (text_event channel first second) }
 {

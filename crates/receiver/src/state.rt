@@ -9,28 +9,28 @@ use crate::heard::{Heard, event_of, text_event};
 use code::{Channel, Code, CodeField, ControlCode, Field, FromData, Pair};
 
 // The last pair that was not refused, text or command, unless it was a repeat.
-#[derive(Drop)]
+#[derive(Clone, Copy)]
 pub enum LastPair {
     Absent,
     Was(Pair),
 }
 
 // The channel that text goes to, once a command has named one.
-#[derive(Drop)]
+#[derive(Clone, Copy)]
 pub enum LastChannel {
     Absent,
     Known(Channel),
 }
 
 // The field that a command named last.
-#[derive(Drop)]
+#[derive(Clone, Copy)]
 pub enum LastField {
     Absent,
     Known(Field),
 }
 
 // Any contents are a valid state.
-#[derive(Drop)]
+#[derive(Clone, Copy)]
 pub struct Cea608State {
     pub last_data: LastPair,
     pub last_channel: LastChannel,
@@ -38,7 +38,7 @@ pub struct Cea608State {
 }
 
 // What a pair gave, and the state after it.
-#[derive(Drop)]
+#[derive(Clone, Copy)]
 pub struct Decoded {
     pub answer: Heard,
     pub state: Cea608State,
@@ -57,6 +57,7 @@ impl Cea608State {
     }
 
     // Reads one pair.
+    #[tactic(auto, unfolding(crate::specs::Receiver::step))]
     pub fn decode(self, pair: Pair) -> Decoded
         ensures { decoded_outcome result ≡ step self pair }
     {
