@@ -10,7 +10,7 @@ use Prim.Native.Nat.{ℕ, zero, suc, ◌*◌, ◌≤◌, ◌<◌}
 use native.Mathlib.Omega.{arith}
 use lib.ListN.{replicate}
 use Rattle.code.proofs.OneAnswer.{clash, same}
-use Rattle.code.proofs.Written.{SentPair}
+use Rattle.code.proofs.WrittenLemmas.{SentPair}
 use Rattle.code.specs.Outcome.{Outcome, answer}
 use Rattle.code.specs.Read.{is_command_pair, read_pair}
 use Rattle.code.specs.declared.pair.Pair.{Pair}

@@ -11,7 +11,7 @@ use lib.Count.{ones, ones_in}
 use lib.Dec.{eqb}
 use Rattle.code.proofs.Both.{both_left}
 use Rattle.code.proofs.CommandCodes.{written_says_command}
-use Rattle.code.proofs.Written.{domain_is_written, settled, written_is_sent}
+use Rattle.code.proofs.WrittenLemmas.{domain_is_written, settled, written_is_sent}
 use Rattle.code.specs.Channel.{channel_one}
 use Rattle.code.specs.Outcome.{Outcome, answer, is_answer, refused}
 use Rattle.code.specs.Read.{control_code_of, is_command_pair, meaning, read_pair}
@@ -34,7 +34,7 @@ use Rattle.queue.specs.Good.{Fit}
 use Rattle.queue.specs.Queue.{Queued, admit, empty, inside, is_single, may_wait, pair_of, pop, queued, pair_written}
 use Rattle.queue.specs.Queueable.{is_queueable, queueable}
 use Rattle.queue.specs.Ring.{all_may_wait}
-use Rattle.queue.specs.Made.{IsByte, MadeOf, command_alone_lem, last_single, nothing_to_send, single_before, space_before, two_singles, has_two_byte_code, is_half_command, makes_command, reads_command}
+use Rattle.queue.specs.Made.{IsByte, MadeOf, one_command, last_single, nothing_to_send, single_before, space_before, two_singles, has_two_byte_code, is_half_command, makes_command, reads_command}
 use Rattle.code.specs.KnownCodes.{letter_a}
 
 -- a code that may be queued goes out with a first byte of 10 to 1F exactly where it is one that is sent as a command
@@ -93,7 +93,7 @@ by_made (last_single x a written) first = written_says_command x (pair a 0x80) 1
 by_made (single_before x c a rest written two) first = written_says_command x (pair a 0x80) 1 written ∙ first_makes x [] first refl
 by_made (two_singles x y a b rest written next) first =
     written_says_command x (pair a 0x80) 1 written ∙ first_makes x (y ∷ []) first (byte_is_single y b next)
-by_made (command_alone_lem c p rest written) first = written_says_command c p 2 written ∙ first_makes c [] first refl
+by_made (one_command c p rest written) first = written_says_command c p 2 written ∙ first_makes c [] first refl
 
 pub popped_is_a_command : (v : Queued) → Fit v → is_command_pair (pop v).pair ≡ makes_command (pop v).took
 popped_is_a_command v f = by_made (made_of v f) (taken_queueable v f)

@@ -9,7 +9,7 @@ use native.Mathlib.Omega.{arith}
 use lib.Count.{ones, ones_in}
 use lib.Dec.{eqb, lit<}
 use Rattle.code.proofs.Lengths.{text_has_one_byte}
-use Rattle.code.proofs.Written.{SentByte, SentPair, domain_is_written, nul_sent, read_as_command, read_as_text, settled, written_is_sent}
+use Rattle.code.proofs.WrittenLemmas.{SentByte, SentPair, domain_is_written, nul_sent, read_as_command, read_as_text, settled, written_is_sent}
 use Rattle.code.specs.Code.{byte_len, needs_backspace}
 use Rattle.code.specs.Outcome.{Outcome, answer, is_answer, refused}
 use Rattle.code.specs.Parity.{stripped}

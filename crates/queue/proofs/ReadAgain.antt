@@ -10,7 +10,7 @@ use Rattle.code.proofs.CommandCodes.{written_says_command}
 use Rattle.code.proofs.Lengths.{text_has_one_byte}
 use Rattle.code.proofs.OneAnswer.{same}
 use Rattle.code.proofs.RoundTrip.{command_again_lem, single_again}
-use Rattle.code.proofs.Written.{data_kept, domain_is_written, even_is_refused, odd_is_read, settled}
+use Rattle.code.proofs.WrittenLemmas.{data_kept, domain_is_written, even_is_refused, odd_is_read, settled}
 use Rattle.code.specs.Outcome.{Outcome, answer, refused}
 use Rattle.code.specs.Parity.{is_odd, stripped, with_parity}
 use Rattle.code.specs.Read.{codes_of_bytes, control_code_of, is_command, read_pair, single}
@@ -37,9 +37,9 @@ command_may a b e less =
     let range = command_range a e in
     let written = command_again_lem a b range.0 range.1 less in
     let kept : stripped (with_parity a) ≡ a = data_kept a ∙ omega arith in
-    let is_command_lem = sym (written_says_command _ _ _ written) ∙ ap is_command kept ∙ e in
+    let is_a_command = sym (written_says_command _ _ _ written) ∙ ap is_command kept ∙ e in
     written_may (code.Control (control_code_of a b)) (pair (with_parity a) (with_parity b)) 2 written
-    (dressed_exactly (code.Control (control_code_of a b)) ∙ ap not is_command_lem)
+    (dressed_exactly (code.Control (control_code_of a b)) ∙ ap not is_a_command)
 
 abbrev BothMay : Code × Code → Type 0
 BothMay r = (queueable r.0 ≡ answer tt) × (queueable r.1 ≡ answer tt)

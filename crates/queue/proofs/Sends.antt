@@ -22,7 +22,7 @@ use Rattle.queue.proofs.Pairs.{code_goes_out_as_written}
 use Rattle.queue.proofs.Ways.{Way, held_code, nothing_inside, last_code, two_codes, before_command, space_first, command_goes, way_of}
 use Rattle.queue.proofs.WellFormed.{held_has_two, held_queueable, may_queueable}
 use Rattle.queue.specs.Good.{Fit}
-use Rattle.queue.specs.Made.{AfterHeld, IsByte, MadeOf, command_alone_lem, last_single, nothing_to_send, single_before, space_before, two_singles}
+use Rattle.queue.specs.Made.{AfterHeld, IsByte, MadeOf, one_command, last_single, nothing_to_send, single_before, space_before, two_singles}
 use Rattle.queue.specs.Queue.{Pop, Queued, byte_of, is_single, may_wait, pair_of, pair_written, pop, pop_held, queued}
 use Rattle.queue.specs.Queueable.{is_queueable}
 use Rattle.queue.specs.Ring.{all_may_wait}
@@ -52,7 +52,7 @@ command_as_pair c may two =
 
 made_by : {v : Queued} {p : Pop} → Way v p → Fit v → MadeOf p.pair p.took p.next
 made_by (held_code c l) f =
-    command_alone_lem c (pair_of c) l (command_as_pair c (held_queueable c f.held) (held_has_two c f.held))
+    one_command c (pair_of c) l (command_as_pair c (held_queueable c f.held) (held_has_two c f.held))
 made_by nothing_inside f = nothing_to_send
 made_by (last_code x e) f = last_single x (byte_of x) (single_as_byte x [] f.codes e)
 made_by (two_codes x y l e next) f =
@@ -62,7 +62,7 @@ made_by (before_command x y l e next) f =
     single_before x y (byte_of x) l (single_as_byte x (y ∷ l) f.codes e) (eqb-true (byte_len y) 2 (not_one_is_two y next))
 made_by (space_first x l e wants) f = space_before x l wants
 made_by (command_goes x l e wants) f =
-    command_alone_lem x (pair_of x) l
+    one_command x (pair_of x) l
     (command_as_pair x (may_queueable x (both_left (may_wait x) (all_may_wait l) f.codes)) (not_one_is_two x e))
 
 pub made_of : (v : Queued) → Fit v → MadeOf (pop v).pair (pop v).took (pop v).next

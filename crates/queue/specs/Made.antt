@@ -27,7 +27,7 @@ pub data MadeOf : Pair → List Code → Queued → Type 0 where
   last_single : (x : Code) (a : ℕ) → IsByte x a → MadeOf (pair a 0x80) (x ∷ []) empty
   single_before : (x c : Code) (a : ℕ) (rest : List Code) → IsByte x a → byte_len c ≡ 2 → MadeOf (pair a (cond (needs_backspace c) 0x20 0x80)) (x ∷ []) (queued rest (some c))
   two_singles : (x y : Code) (a b : ℕ) (rest : List Code) → IsByte x a → IsByte y b → MadeOf (pair a b) (x ∷ y ∷ []) (queued rest none)
-  command_alone_lem : (c : Code) (p : Pair) (rest : List Code) → write_code c ≡ answer (p, 2) → MadeOf p (c ∷ []) (queued rest none)
+  one_command : (c : Code) (p : Pair) (rest : List Code) → write_code c ≡ answer (p, 2) → MadeOf p (c ∷ []) (queued rest none)
 
 -- whether a code among those taken needs a backspace
 abbrev pub has_backspace : List Code → Bool

@@ -6,13 +6,13 @@ ghost use Rattle.queue.specs.Ring.{count_outcome, count_ring, held_in};
 use crate::ring::{Held, Queue};
 
 // The number of codes. `IllFormed` is refusal 12.
-#[derive(Drop)]
+#[derive(Clone, Copy)]
 pub enum CountAnswer {
     Codes(usize),
     IllFormed,
 }
 
-#[derive(Drop)]
+#[derive(Clone, Copy)]
 pub struct Counted {
     pub queue: Queue,
     pub answer: CountAnswer,
@@ -32,6 +32,7 @@ impl Held {
 
 impl Queue {
     // The codes that wait, and the held one.
+    #[tactic(auto, using(crate::proofs::WellFormed::formed, crate::proofs::WellFormed::one_held, crate::proofs::Places::how_many_lem), unfolding(crate::specs::Ring::count_ring))]
     pub fn n_codes(self) -> Counted
         ensures { count_outcome result ≡ count_ring self }
     {

@@ -20,6 +20,7 @@ pub(crate) fn bytes_number(bytes: Pair) -> u16
 }
 
 // Whether a number stands for a single code.
+#[tactic(auto, using(crate::proofs::Numbered::length_told))]
 pub(crate) fn is_single(number: u16) -> bool
     ensures { result ≡ is_single (code_of number) }
 {
@@ -63,6 +64,7 @@ fn channel_in(number: u16) -> Channel
 }
 
 // The byte of a single code as it is sent.
+#[tactic(auto, using(crate::proofs::Numbered::single_of_number))]
 pub(crate) fn byte_of(number: u16) -> u8
     requires { 0x8000 ≤ number }
     ensures { result ≡ byte_of (code_of number) }
@@ -71,6 +73,7 @@ pub(crate) fn byte_of(number: u16) -> u8
 }
 
 // The pair that a code is sent as.
+#[tactic(auto, using(crate::proofs::Numbered::single_from, crate::proofs::Numbered::command_below, crate::proofs::Numbered::command_of_number_lem, crate::proofs::Numbered::single_of_number))]
 pub(crate) fn pair_of(number: u16) -> Pair
     ensures { result ≡ pair_of (code_of number) }
 {
@@ -86,6 +89,7 @@ pub(crate) fn pair_of(number: u16) -> Pair
 
 // Whether the queue puts a space before a command: before 11 20 to 11 2F, 12 20 to 12 3F and 13 20 to 13 3F, where they
 // are no `Unknown`.
+#[tactic(auto, using(crate::proofs::Numbered::backspace_told))]
 pub(crate) fn needs_backspace(number: u16) -> bool
     requires { number < 0x8000 }
     ensures { result ≡ needs_backspace (code_of number) }

@@ -8,20 +8,20 @@ use crate::ring::{Held, Queue};
 use code::Pair;
 
 // `IllFormed` is refusal 12.
-#[derive(Drop)]
+#[derive(Clone, Copy)]
 pub enum PopAnswer {
     Next(Pair),
     IllFormed,
 }
 
-#[derive(Drop)]
+#[derive(Clone, Copy)]
 pub struct Popped {
     pub queue: Queue,
     pub answer: PopAnswer,
 }
 
 // What a pop does: the pair that goes out, how many places it frees, and what is held afterwards.
-#[derive(Drop)]
+#[derive(Clone, Copy)]
 pub struct Turn {
     pub pair: Pair,
     pub freed: usize,
@@ -49,6 +49,7 @@ pub(crate) fn command_turn(command: u16) -> Turn
 }
 
 // A single code and the code after it: both in one pair, or the first alone and the command after it held.
+#[tactic(auto, using(crate::proofs::Numbered::single_from, crate::proofs::Numbered::command_below))]
 pub(crate) fn single_turn(first: u16, second: u16) -> Turn
     requires { 0x8000 ≤ first }
     ensures { result ≡ single_turn first second }
@@ -76,6 +77,7 @@ pub(crate) fn single_turn(first: u16, second: u16) -> Turn
 }
 
 // The turn of a queue in which a code waits and none is held: by the first code, and by the second where another waits.
+#[tactic(auto, using(crate::proofs::Numbered::single_from, crate::proofs::Numbered::command_below, crate::proofs::Turns::command_turns, crate::proofs::Turns::last_turns, crate::proofs::Turns::single_turns))]
 pub(crate) fn front_turn(first: u16, second: u16, waiting: usize) -> Turn
     requires { 0 < waiting }
     ensures { result ≡ front_turn first second waiting }
@@ -95,6 +97,7 @@ pub(crate) fn front_turn(first: u16, second: u16, waiting: usize) -> Turn
 
 // The turn of a queue by the numbers at its first two places, how many wait and what is held: the held code goes out
 // first of all, and padding where nothing waits.
+#[tactic(auto, using(crate::proofs::Turns::held_turn, crate::proofs::Turns::empty_turn))]
 pub fn turn_of(first: u16, second: u16, waiting: usize, held: Held) -> Turn
     ensures { result ≡ turn_of first second waiting held }
 {

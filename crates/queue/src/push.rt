@@ -9,7 +9,7 @@ use crate::well_formed::is_formed;
 use code::Code;
 
 // `UnknownByte` is refusal 2, `NoSuchRow` refusal 3, `NotACommand` refusal 18, `Full` refusal 7, `IllFormed` refusal 12.
-#[derive(Drop)]
+#[derive(Clone, Copy)]
 pub enum PushAnswer {
     Accepted,
     UnknownByte,
@@ -20,14 +20,14 @@ pub enum PushAnswer {
 }
 
 // The state comes before the answer: the compiler then copies the ring straight to where the answer is kept.
-#[derive(Drop)]
+#[derive(Clone, Copy)]
 pub struct Pushed {
     pub queue: Queue,
     pub answer: PushAnswer,
 }
 
 // What a push does to the ring: it stores a number and is accepted, or it leaves the ring as it is and gives the answer.
-#[derive(Drop)]
+#[derive(Clone, Copy)]
 pub enum Entry {
     Stored(u16),
     Unchanged(PushAnswer),
@@ -35,6 +35,7 @@ pub enum Entry {
 
 // What becomes of a code, by the parts of the queue but its places. 12 is tested first; NUL passes even where the queue
 // is full; 2, 3 and 18 are tested before 7.
+#[tactic(auto, using(crate::proofs::Entries::ill_formed_entry, crate::proofs::Entries::nul_entry, crate::proofs::Entries::refused_entry, crate::proofs::Entries::full_entry, crate::proofs::Entries::stored_entry))]
 pub fn entry_for(start: usize, waiting: usize, held: Held, code: Code) -> Entry
     ensures { entry_outcome result ≡ entry_for start waiting held code }
 {

@@ -4,14 +4,14 @@ ghost use Rattle.std.specs.Prelude.{◌≡◌};
 ghost use Rattle.queue.specs.Ring.{fresh_ring};
 
 // A command that the next pop sends, since the pair before it carried the single code or space that precedes it.
-#[derive(Drop)]
+#[derive(Clone, Copy)]
 pub enum Held {
     Absent,
     Of(u16),
 }
 
 // The waiting codes stand from `start` on, and wrap around to place 0 at the end.
-#[derive(Drop)]
+#[derive(Clone, Copy)]
 pub struct Queue {
     pub places: [u16; 64],
     pub start: usize,

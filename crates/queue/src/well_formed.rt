@@ -7,6 +7,7 @@ use crate::ring::{Held, Queue};
 
 impl Held {
     // Whether nothing is held, or a two-byte code.
+    #[tactic(auto, using(crate::proofs::WellFormed::held_told))]
     pub(crate) fn is_well_formed(self) -> bool
         ensures { result ≡ held_fits (held_in self) }
     {
@@ -32,6 +33,7 @@ pub(crate) fn is_formed(start: usize, waiting: usize, held: Held) -> bool
 
 impl Queue {
     // Whether refusal 12 does not apply.
+    #[tactic(auto, using(crate::proofs::WellFormed::formed_by_the_rest))]
     pub fn is_well_formed(self) -> bool
         ensures { result ≡ well_formed self }
     {

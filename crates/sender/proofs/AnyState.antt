@@ -7,7 +7,7 @@ use Prim.Native.Nat.{ℕ, ◌≤◌}
 use native.Mathlib.Omega.{arith}
 use Rattle.code.proofs.Both.{both_left}
 use Rattle.code.proofs.OneAnswer.{clash, same}
-use Rattle.code.proofs.Written.{SentPair}
+use Rattle.code.proofs.WrittenLemmas.{SentPair}
 use Rattle.code.specs.Outcome.{Outcome, answer}
 use Rattle.code.specs.Read.{is_command_pair, is_odd_pair}
 use Rattle.code.specs.declared.pair.Pair.{Pair}

@@ -8,7 +8,7 @@ use native.Mathlib.Omega.{arith}
 use lib.ListN.{length}
 use Prim.Native.Nat.{ℕ}
 use Rattle.code.proofs.OneAnswer.{same}
-use Rattle.code.proofs.Written.{SentPair}
+use Rattle.code.proofs.WrittenLemmas.{SentPair}
 use Rattle.code.specs.Outcome.{Outcome, answer, refused}
 use Rattle.code.specs.Read.{is_command_pair}
 use Rattle.code.specs.declared.code.Code.{Code}

@@ -5,7 +5,7 @@ ghost use Rattle.sender.specs.Sender.{count_outcome, count_sender};
 use crate::sender::Sender;
 use queue::CountAnswer;
 
-#[derive(Drop)]
+#[derive(Clone, Copy)]
 pub struct Counted {
     pub sender: Sender,
     pub answer: CountAnswer,

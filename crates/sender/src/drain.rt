@@ -10,21 +10,21 @@ use crate::sender::{Repeats, Sender};
 use queue::{Held, Queue};
 
 // The count of sends. `StartPastEnd` is refusal 11, `IllFormed` refusal 12.
-#[derive(Drop)]
+#[derive(Clone, Copy)]
 pub enum DrainAnswer {
     Sends(usize),
     StartPastEnd,
     IllFormed,
 }
 
-#[derive(Drop)]
+#[derive(Clone, Copy)]
 pub struct Drained {
     pub sender: Sender,
     pub answer: DrainAnswer,
 }
 
 // How far a writer of pairs has come: the sends, and the parts of the state that they change.
-#[derive(Drop)]
+#[derive(Clone, Copy)]
 pub(crate) struct Writing {
     pub sends: usize,
     pub start: usize,

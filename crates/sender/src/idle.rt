@@ -7,14 +7,14 @@ use crate::sender::{Owed, Repeats, Sender};
 use queue::Held;
 
 // `Idle` where nothing waits, nothing is held and nothing is owed. `IllFormed` is refusal 12.
-#[derive(Drop)]
+#[derive(Clone, Copy)]
 pub enum IdleAnswer {
     Idle,
     Busy,
     IllFormed,
 }
 
-#[derive(Drop)]
+#[derive(Clone, Copy)]
 pub struct Idleness {
     pub sender: Sender,
     pub answer: IdleAnswer,
@@ -39,6 +39,7 @@ pub(crate) fn has_nothing(waiting: usize, held: Held, repeats: Repeats) -> bool
 
 impl Sender {
     // Whether all that was accepted has been sent, each command twice.
+    #[tactic(auto, using(crate::proofs::NothingLeft::idle_by_parts), unfolding(crate::specs::Sender::idle_sender))]
     pub fn is_idle(self) -> Idleness
         ensures { idle_outcome result ≡ idle_sender self }
     {

@@ -7,7 +7,7 @@ use code::Code;
 use queue::push::entry_for;
 use queue::{Entry, PushAnswer};
 
-#[derive(Drop)]
+#[derive(Clone, Copy)]
 pub struct Pushed {
     pub sender: Sender,
     pub answer: PushAnswer,

@@ -10,14 +10,14 @@ use code::Pair;
 use queue::pop::turn_of;
 use queue::{Held, PopAnswer, Queue};
 
-#[derive(Drop)]
+#[derive(Clone, Copy)]
 pub struct Sent {
     pub sender: Sender,
     pub answer: PopAnswer,
 }
 
 // What a send does: the pair that goes out, how many places of the ring it frees, and what is held and owed afterwards.
-#[derive(Drop)]
+#[derive(Clone, Copy)]
 pub(crate) struct Step {
     pub pair: Pair,
     pub freed: usize,

@@ -6,19 +6,19 @@ use code::Pair;
 use queue::Queue;
 
 // A command pair that has been sent once.
-#[derive(Drop)]
+#[derive(Clone, Copy)]
 pub enum Owed {
     Absent,
     Repeat(Pair),
 }
 
 // What the sender keeps beside the queue so that each command goes out twice.
-#[derive(Drop)]
+#[derive(Clone, Copy)]
 pub struct Repeats {
     pub owed: Owed,
 }
 
-#[derive(Drop)]
+#[derive(Clone, Copy)]
 pub struct Sender {
     pub queue: Queue,
     pub repeats: Repeats,

@@ -46,6 +46,7 @@ impl Repeats {
 
 impl Sender {
     // Whether refusal 12 does not apply.
+    #[tactic(auto, unfolding(crate::specs::Sender::well_formed))]
     pub fn is_well_formed(self) -> bool
         ensures { result ≡ well_formed self }
     {
