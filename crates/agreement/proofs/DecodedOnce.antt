@@ -7,7 +7,7 @@ use mathlib.Core.List.{List, [], ◌∷◌}
 use mathlib.Core.Option.{Option, none, some}
 use mathlib.Core.Path.{◌≡◌, refl, ap, sym, subst, ◌∙◌}
 use Rattle.code.proofs.Both.{both_true}
-use Rattle.code.proofs.Written.{read_as_command}
+use Rattle.code.proofs.WrittenLemmas.{read_as_command}
 use Rattle.code.specs.Outcome.{Outcome, answer, refused}
 use Rattle.code.specs.Parity.{is_odd, stripped}
 use Rattle.code.specs.Read.{control_code_of, is_command_pair, is_odd_pair, single}
@@ -100,8 +100,8 @@ module _ (p : Pair) (ps : List Pair) (odd : is_odd_pair p ≡ true) (go : Contin
   abbrev heard_code : ControlCode
   heard_code = control_code_of (stripped p.0) (stripped p.1)
 
-  is_command_lem : is_command_pair p ≡ true → IsCommand p heard_code
-  is_command_lem is = (code.Nul, read_as_command p.0 p.1 parity.0 parity.1 is)
+  is_a_command : is_command_pair p ≡ true → IsCommand p heard_code
+  is_a_command is = (code.Nul, read_as_command p.0 p.1 parity.0 parity.1 is)
 
   -- a command that acts for both leaves the same channel and field
   acted_same : (s t : Cea608State) → Same s t → Same (acts s p heard_code).1 (acts t p heard_code).1
@@ -110,14 +110,14 @@ module _ (p : Pair) (ps : List Pair) (odd : is_odd_pair p ≡ true) (go : Contin
   -- a copy that is not the last pair acts, and the rest of the line follows
   acts_heard : (s t : Cea608State) (qs : List Pair) → is_command_pair p ≡ true → is_last p s.last_data ≡ false → Agrees (acts s p heard_code).1 (acts t p heard_code).1 qs ps → Agrees s t (p ∷ qs) (p ∷ ps)
   acts_heard s t qs is other a =
-      heard_in_front s t _ _ (acts s p heard_code).0 p p qs ps (command_acts s p heard_code (is_command_lem is) other)
-      (command_once t p heard_code (is_command_lem is)) a
+      heard_in_front s t _ _ (acts s p heard_code).0 p p qs ps (command_acts s p heard_code (is_a_command is) other)
+      (command_once t p heard_code (is_a_command is)) a
 
   -- after a first copy that acted: its repeat is skipped, or corrupted
   second_after_acting : (s t : Cea608State) (qs : List Pair) → is_command_pair p ≡ true → Same s t → s.last_data ≡ last.Was p → OneByOne none (p ∷ doubled ps) qs → Agrees s t qs ps
   second_after_acting s t qs is same holds (one.arrives {qs = qs'} rest) =
       silent_in_front s t (forgotten s) p qs' ps
-      (repeat_is_skipped s p heard_code (is_command_lem is) (ap (is_last p) holds ∙ last_is_last p))
+      (repeat_is_skipped s p heard_code (is_a_command is) (ap (is_last p) holds ∙ last_is_last p))
       (go none qs' (forgotten s) t rest refl (record { channel = same.channel; field = same.field }))
   second_after_acting s t qs is same holds (one.is_corrupted {q = q} {qs = qs'} c w even rest) =
       corrupted_in_front s t q qs' ps even (go (some p) qs' s t rest holds same)
@@ -135,15 +135,15 @@ module _ (p : Pair) (ps : List Pair) (odd : is_odd_pair p ≡ true) (go : Contin
   command_heard : (h : Option Pair) (qs : List Pair) (s t : Cea608State) (corrupted : Bool) → was_corrupted h p ≡ corrupted → is_command_pair p ≡ true → OneByOne h (p ∷ p ∷ doubled ps) qs → Ready h s.last_data → Same s t → Agrees s t qs (p ∷ ps)
   command_heard h qs s t false w is (one.arrives {qs = qs'} rest) ready same =
       let first = subst (λ (b : Bool). OneByOne (cond b h none) (p ∷ doubled ps) qs') w rest in
-      let other = repeat_is_told h s.last_data p heard_code (is_command_lem is) ready ∙ w in
+      let other = repeat_is_told h s.last_data p heard_code (is_a_command is) ready ∙ w in
       acts_heard s t qs' is other (second_after_acting _ _ qs' is (acted_same s t same) refl first)
   command_heard h qs s t true w is (one.arrives {qs = qs'} rest) ready same =
       let on = subst (λ (b : Bool). OneByOne (cond b h none) (p ∷ doubled ps) qs') w rest in
-      let again = repeat_is_told h s.last_data p heard_code (is_command_lem is) ready ∙ w in
-      silent_in_front s t (forgotten s) p qs' (p ∷ ps) (repeat_is_skipped s p heard_code (is_command_lem is) again)
+      let again = repeat_is_told h s.last_data p heard_code (is_a_command is) ready ∙ w in
+      silent_in_front s t (forgotten s) p qs' (p ∷ ps) (repeat_is_skipped s p heard_code (is_a_command is) again)
       (second_acts h (forgotten s) t qs' is (record { channel = same.channel; field = same.field }) w refl on)
   command_heard h qs s t corrupted w is (one.is_corrupted {q = q} {qs = qs'} c fine even rest) ready same =
-      let other = repeat_is_told h s.last_data p heard_code (is_command_lem is) ready ∙ fine in
+      let other = repeat_is_told h s.last_data p heard_code (is_a_command is) ready ∙ fine in
       corrupted_in_front s t q qs' (p ∷ ps) even (second_acts (some p) s t qs' is same (same_itself p) other rest)
 
   pair_heard : (t : Bool) → is_command_pair p ≡ t → Continues (p ∷ ps)

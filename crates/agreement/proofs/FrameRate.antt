@@ -13,7 +13,7 @@ use lib.Dec.{eqb}
 use borrow.Author.Tests.{eqb-true}
 use Rattle.code.proofs.Both.{both_true}
 use Rattle.code.proofs.OneAnswer.{same}
-use Rattle.code.proofs.Written.{command_by_first_byte, odd_is_read, read_as_command}
+use Rattle.code.proofs.WrittenLemmas.{command_by_first_byte, odd_is_read, read_as_command}
 use Rattle.code.specs.Outcome.{Outcome, answer, refused}
 use Rattle.code.specs.Parity.{is_odd, stripped}
 use Rattle.code.specs.Pair.{same_pair}

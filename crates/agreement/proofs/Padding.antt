@@ -3,7 +3,7 @@
 use mathlib.Core.Option.{none}
 use mathlib.Core.Path.{◌≡◌, refl, ap, ◌∙◌}
 use Rattle.agreement.specs.Pairs.{padding}
-use Rattle.code.proofs.Written.{padding_read}
+use Rattle.code.proofs.WrittenLemmas.{padding_read}
 use Rattle.code.specs.Outcome.{answer}
 use Rattle.code.specs.declared.code.Code.TheVariants as code
 use Rattle.receiver.specs.Reading.{once}

@@ -15,7 +15,7 @@ use lib.Dec.{eqb}
 use lib.ListN.{length}
 use Rattle.code.proofs.Both.{both_left, both_right}
 use Rattle.code.proofs.CommandCodes.{written_says_command}
-use Rattle.code.proofs.Written.{nul_sent, written_is_sent}
+use Rattle.code.proofs.WrittenLemmas.{nul_sent, written_is_sent}
 use Rattle.code.specs.Channel.{channel_one}
 use Rattle.code.specs.Characters.{standard}
 use Rattle.code.specs.Code.{char_of, needs_backspace}
@@ -37,7 +37,7 @@ use Rattle.code.specs.declared.preamble.PreambleType.TheVariants as style
 use Rattle.event.specs.Mode.{mode_of}
 use Rattle.event.specs.declared.event.Cea608.{Cea608}
 use Rattle.event.specs.declared.event.Cea608.TheVariants as event
-use Rattle.queue.specs.Made.{AfterHeld, IsByte, MadeOf, command_alone_lem, last_single, nothing_to_send, single_before, space_before, two_singles, has_backspace, is_half_command}
+use Rattle.queue.specs.Made.{AfterHeld, IsByte, MadeOf, one_command, last_single, nothing_to_send, single_before, space_before, two_singles, has_backspace, is_half_command}
 use Rattle.queue.specs.Number.{code_of}
 use Rattle.queue.specs.Queue.{Queued, admit, count, held_codes, inside, pair_of, pair_written, pop}
 use Rattle.queue.specs.Queueable.{queueable}
@@ -231,7 +231,7 @@ module _ (ps : List Pair) (codes : List Code) where
       (two_texts a b ps (each_alone codes) (byte_is_text x a written (whole_by x (y ∷ codes) whole))
       (byte_is_text y b other (whole_by y codes (whole_after x (y ∷ codes) whole)))
       go)
-  by_made before (command_alone_lem c p rest written) after whole next go =
+  by_made before (one_command c p rest written) after whole next go =
       subst (Alike (p ∷ ps)) (sym (first_as before c p 2 [] codes written after)) (same_first p ps (each_alone codes) go)
 
 -- so do all of them, where nothing is held at the end
