@@ -16,7 +16,7 @@ use Rattle.extended.proofs.Ways as way
 use Rattle.extended.proofs.Ways.{Way, heard_not_refused, heard_by, way_of}
 use Rattle.extended.specs.Extended.{Read, Reader, Report, read, reported, with_captions}
 use Rattle.extended.specs.Reading.{after, answers, captions_run, is_packet_code, is_refused, no_packet_code, not_refused, unless_refused}
-use Rattle.extended.specs.Refusals.{Leaves, end_in_captions, end_of_no_packet, invalid_parity, no_such_packet, too_long_lem, wrong_sum_lem}
+use Rattle.extended.specs.Refusals.{Leaves, end_in_captions, end_of_no_packet, invalid_parity, no_such_packet, too_long, of_wrong_sum}
 use Rattle.extended.specs.declared.class.Class.{Class}
 use Rattle.extended.specs.declared.state.Running.TheVariants as running
 use Rattle.receiver.specs.Reading as reading
@@ -35,7 +35,7 @@ takes_by_way s p _ (way.corrupted even) = refl
 takes_by_way s p _ (way.acts is) = heard_is_taken s p _ (heard_not_refused s p is.odd)
 takes_by_way s p _ (way.is_text_lem is runs) = heard_is_taken s p _ (heard_not_refused s p is.odd)
 takes_by_way s p _ (way.starts c is) = refl
-takes_by_way s p _ (way.goes_on c is there) = refl
+takes_by_way s p _ (way.continues c is there) = refl
 takes_by_way s p _ (way.no_such_packet c is there) = refl
 takes_by_way s p _ (way.ends_in_captions is runs) = refl
 takes_by_way s p _ (way.ends_without_packet c is runs there) = refl
@@ -66,8 +66,8 @@ same_reader s _ p _ runs (invalid_parity even) = refl
 same_reader s _ p _ runs (no_such_packet c is other) = refl
 same_reader s _ p _ runs (end_in_captions is on) = refl
 same_reader s _ p _ runs (end_of_no_packet c is other gone) = refl
-same_reader s _ p _ runs (too_long_lem c k is other there more) = absurd (captions_apart c (sym runs ∙ other))
-same_reader s _ p _ runs (wrong_sum_lem c k is other there wrong) = absurd (captions_apart c (sym runs ∙ other))
+same_reader s _ p _ runs (too_long c k is other there more) = absurd (captions_apart c (sym runs ∙ other))
+same_reader s _ p _ runs (of_wrong_sum c k is other there wrong) = absurd (captions_apart c (sym runs ∙ other))
 
 -- the pairs that are not refused, where the first gave o and left x
 abbrev taken_from : Outcome Report → Reader → Pair → List Pair → List Pair

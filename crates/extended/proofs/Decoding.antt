@@ -6,7 +6,7 @@ use mathlib.Core.List.{[], ◌∷◌}
 use mathlib.Core.Path.{◌≡◌, refl, ap, sym, ◌∙◌}
 use types.Run.{OneOf, miss}
 use Rattle.code.proofs.OneAnswer.{clash}
-use Rattle.code.specs.Outcome.{answer, refused}
+use Rattle.code.specs.Outcome.{refused}
 use Rattle.code.specs.Parity.{stripped}
 use Rattle.code.specs.Read.{is_odd_pair}
 use Rattle.code.specs.declared.pair.Pair.{Pair}
@@ -54,6 +54,16 @@ odd_or_refused r p false even e = absurd (e (ap (λ (x : Stepped). x.0) (even_is
 pub heard_is_odd : (r : Cea608State) (p : Pair) (d : Decoded) → decoded_outcome d ≡ receiver.step r p → OneOf (0 ∷ 1 ∷ []) (tag_of the_type d.answer) → is_odd_pair p ≡ true
 heard_is_odd r p d e left =
     odd_or_refused r p (is_odd_pair p) refl (λ (c : (receiver.step r p).0 ≡ refused 1). heard_is_no_refusal d.answer left (ap (λ (x : Stepped). x.0) e ∙ c))
+
+no_refusal : (h : Heard) → (h ≡ heard.InvalidParity → ⊥) → heard_outcome h ≡ refused 1 → ⊥
+no_refusal (heard.Event e) other c = clash c
+no_refusal heard.Nothing other c = clash c
+no_refusal heard.InvalidParity other c = other refl
+
+-- the same, where the answer is only known to be no refusal
+pub not_refused_is_odd : (r : Cea608State) (p : Pair) (d : Decoded) → decoded_outcome d ≡ receiver.step r p → (d.answer ≡ heard.InvalidParity → ⊥) → is_odd_pair p ≡ true
+not_refused_is_odd r p d e other =
+    odd_or_refused r p (is_odd_pair p) refl (λ (c : (receiver.step r p).0 ≡ refused 1). no_refusal d.answer other (ap (λ (x : Stepped). x.0) e ∙ c))
 
 -- by the part of the pair, and what the captions' receiver answers
 pub by_part_lem : (s : ExtendedState) (p : Pair) (d : Decoded) (x : Part) → decoded_outcome d ≡ receiver.step s.captions p → is_odd_pair p ≡ true → part_of (stripped p.0) ≡ x → step s p ≡ by_part_state s (decoded_outcome d) x (stripped p.0) (stripped p.1)

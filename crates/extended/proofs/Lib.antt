@@ -1,5 +1,5 @@
 pub mod Classes
-pub mod Contents
+pub mod ContentsLemmas
 pub mod Parts
 pub mod Decoding
 pub mod Ways

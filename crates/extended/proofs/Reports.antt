@@ -14,11 +14,11 @@ use Rattle.code.specs.Outcome.{Outcome, answer, refused}
 use Rattle.code.specs.declared.pair.Pair.{Pair}
 use Rattle.event.specs.declared.event.Cea608.{Cea608}
 use Rattle.extended.proofs.Classes.{its_own_class, same_class_lem}
-use Rattle.extended.proofs.Ways.{Way, acts, corrupted, ends_in_captions, ends_without_packet, fills, finishes, goes_on_lem, has_wrong_sum, heard_by, is_passed_over, is_text_lem, is_too_long, no_such_packet, starts, way_of, with_contents}
+use Rattle.extended.proofs.Ways.{Way, acts, corrupted, ends_in_captions, ends_without_packet, fills, finishes, continues, has_wrong_sum, heard_by, is_passed_over, is_text_lem, is_too_long, no_such_packet, starts, way_of, with_contents}
 use Rattle.extended.specs.Extended.{Read, Reader, Report, event, fresh, nothing, packet, read, reported, same_class}
 use Rattle.extended.specs.Packet.{Packet, most_contents}
 use Rattle.extended.specs.Reading.{Is, after, answers, is_some}
-use Rattle.extended.specs.Reports.{Becomes, WasOpen, begun, ended, given_packet, more, reports, the_same, times_reported, too_long_lem}
+use Rattle.extended.specs.Reports.{Becomes, WasOpen, begun, ended, given_packet, more, reports, the_same, times_reported, too_long}
 use Rattle.extended.specs.SentWhole.{is_own_start, no_own_start}
 use Rattle.extended.specs.declared.class.Class.{Class}
 use Rattle.extended.specs.declared.part.Part.TheVariants as part
@@ -44,7 +44,7 @@ module _ (s : Reader) (p : Pair) (c : Class) (t : ℕ) (bs : List ℕ) where
   reported_by _ (acts is) e = absurd (not_this (reported (heard_by s p).0) (no_packet (heard_by s p).0) e)
   reported_by _ (is_text_lem is runs) e = absurd (not_this (reported (heard_by s p).0) (no_packet (heard_by s p).0) e)
   reported_by _ (starts d is) e = absurd (not_this (answer nothing) refl e)
-  reported_by _ (goes_on_lem d is there) e = absurd (not_this (answer nothing) refl e)
+  reported_by _ (continues d is there) e = absurd (not_this (answer nothing) refl e)
   reported_by _ (no_such_packet d is there) e = absurd (not_this (refused 13) refl e)
   reported_by _ (ends_in_captions is runs) e = absurd (not_this (refused 13) refl e)
   reported_by _ (ends_without_packet d is runs there) e = absurd (not_this (refused 13) refl e)
@@ -81,7 +81,7 @@ module _ (c : Class) (s : Reader) (p : Pair) where
   becomes_by _ (is_text_lem is runs) = the_same
   becomes_by _ (starts d is) =
       begun_or_not d (same_class d c) _ refl (λ (e : d ≡ c). begun (subst (λ (x : Class). Is (part.Start x) p) e is))
-  becomes_by _ (goes_on_lem d is there) = the_same
+  becomes_by _ (continues d is there) = the_same
   becomes_by _ (no_such_packet d is there) = the_same
   becomes_by _ (ends_in_captions is runs) = the_same
   becomes_by _ (ends_without_packet d is runs there) = the_same
@@ -93,7 +93,7 @@ module _ (c : Class) (s : Reader) (p : Pair) where
       more k is (runs ∙ ap running.Extended e) (ap s.packets (sym e) ∙ there) (leb-true (length (with_contents k p).contents) most_contents room))
   becomes_by _ (is_too_long d k is runs there full) =
       dropped_or_not d (same_class d c) refl (λ (e : d ≡ c).
-      too_long_lem k is (runs ∙ ap running.Extended e) (ap s.packets (sym e) ∙ there) (leb-false (length (with_contents k p).contents) most_contents full))
+      too_long k is (runs ∙ ap running.Extended e) (ap s.packets (sym e) ∙ there) (leb-false (length (with_contents k p).contents) most_contents full))
 
   pub what_becomes_of_a_packet : Becomes c s p ((read s p).1.packets c)
   what_becomes_of_a_packet = becomes_by (read s p) (way_of s p)
@@ -112,7 +112,7 @@ still_at_most s p c before _ (begun is) k e =
 still_at_most s p c before _ (more j is runs there few) k e =
     subst (λ (y : Packet). length y.contents ≤ most_contents) (ap (or_else k) e) few
 still_at_most s p c before _ (ended j is runs there) k e = absurd (no_some k e)
-still_at_most s p c before _ (too_long_lem j is runs there more_bytes) k e = absurd (no_some k e)
+still_at_most s p c before _ (too_long j is runs there more_bytes) k e = absurd (no_some k e)
 
 pub at_most_32_still : (s : Reader) (p : Pair) → AtMost32 s → AtMost32 (read s p).1
 at_most_32_still s p before c = still_at_most s p c before ((read s p).1.packets c) (what_becomes_of_a_packet c s p)
@@ -132,7 +132,7 @@ module _ (c : Class) where
       absurd (true≢false (sym (rw (is.odd, is.part, its_own_class c) refl) ∙ no_start))
   still_none s p gone no_start _ (more k is runs there few) = absurd (no_some k (sym gone ∙ there))
   still_none s p gone no_start _ (ended k is runs there) = refl
-  still_none s p gone no_start _ (too_long_lem k is runs there more_bytes) = refl
+  still_none s p gone no_start _ (too_long k is runs there more_bytes) = refl
 
   not_its_own : (s : Reader) (p : Pair) (d : Class) (t : ℕ) (bs : List ℕ) → s.packets c ≡ none → (read s p).0 ≡ answer (packet d t bs) → (same : Bool) → same_class d c ≡ same → ◌≡◌ {A = ℕ} (cond same 1 0) 0
   not_its_own s p d t bs gone e true own =

@@ -15,7 +15,7 @@ use Rattle.code.specs.declared.pair.Pair.{Pair}
 use Rattle.event.specs.declared.event.Cea608.{Cea608}
 use Rattle.extended.proofs.Classes.{its_own_class, same_class_lem}
 use Rattle.extended.proofs.Reports.{no_packet, not_before_a_start, or_else}
-use Rattle.extended.proofs.Ways.{Way, acts, corrupted, ends_in_captions, ends_without_packet, fills, finishes, fits, goes_on_lem, has_wrong_sum, heard_by, is_passed_over, is_text_lem, is_too_long, no_such_packet, read_by_part, starts, way_of, with_contents}
+use Rattle.extended.proofs.Ways.{Way, acts, corrupted, ends_in_captions, ends_without_packet, fills, finishes, fits, continues, has_wrong_sum, heard_by, is_passed_over, is_text_lem, is_too_long, no_such_packet, read_by_part, starts, way_of, with_contents}
 use Rattle.extended.specs.Extended.{Read, Reader, ended, finished, packet, read, reported, same_class, with_captions, with_packet}
 use Rattle.extended.specs.Packet.{Packet, content_bytes, is_right_sum, most_contents}
 use Rattle.extended.specs.Reading.{Is, after, answers, first, second}
@@ -100,7 +100,7 @@ module _ (c : Class) (t : ℕ) (s : Reader) (p : Pair) (bs : List ℕ) (held : s
   by_way r (acts is) = as_it_was r (rw (is.odd, is.part) refl) held (no_report c (heard_by s p).0)
   by_way r (is_text_lem is runs_on) = as_it_was r (rw (is.odd, is.part, runs_on) refl) held (no_report c (heard_by s p).0)
   by_way r (starts d is) = as_it_was r (rw (is.odd, is.part) refl) (elsewhere d (holding (second p) []) (apart_start d is)) refl
-  by_way r (goes_on_lem d is there) = as_it_was r (rw (is.odd, is.part) refl) held refl
+  by_way r (continues d is there) = as_it_was r (rw (is.odd, is.part) refl) held refl
   by_way r (no_such_packet d is there) = as_it_was r (rw (is.odd, is.part) refl) held refl
   by_way r (ends_in_captions is runs_on) = as_it_was r (rw (is.odd, is.part) refl) held refl
   by_way r (ends_without_packet d is runs_d there) = as_it_was r (rw (is.odd, is.part) refl) held refl

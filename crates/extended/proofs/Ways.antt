@@ -60,7 +60,7 @@ pub data Way (s : Reader) (p : Pair) : Read → Type 0 where
   acts : Is part.Command p → Way s p (command s (heard_by s p))
   is_text_lem : Is part.Other p → s.running ≡ running.Captions → Way s p (reported (heard_by s p).0, with_captions s (heard_by s p).1)
   starts : (c : Class) → Is (part.Start c) p → Way s p (started s (heard_by s p).1 c (second p))
-  goes_on_lem : (c : Class) → Is (part.Continuation c) p → is_type (second p) (s.packets c) ≡ true → Way s p (answer nothing, opened s (heard_by s p).1 c)
+  continues : (c : Class) → Is (part.Continuation c) p → is_type (second p) (s.packets c) ≡ true → Way s p (answer nothing, opened s (heard_by s p).1 c)
   no_such_packet : (c : Class) → Is (part.Continuation c) p → is_type (second p) (s.packets c) ≡ false → Way s p (refused 13, s)
   ends_in_captions : Is part.End p → s.running ≡ running.Captions → Way s p (refused 13, s)
   ends_without_packet : (c : Class) → Is part.End p → s.running ≡ running.Extended c → s.packets c ≡ none → Way s p (refused 13, s)
@@ -72,7 +72,7 @@ pub data Way (s : Reader) (p : Pair) : Read → Type 0 where
 
 module _ (s : Reader) (p : Pair) where
   continuation_way : (c : Class) (t : Bool) → Is (part.Continuation c) p → is_type (second p) (s.packets c) ≡ t → Way s p (continued s (heard_by s p).1 c (second p))
-  continuation_way c true is e = rw e (goes_on_lem c is e)
+  continuation_way c true is e = rw e (continues c is e)
   continuation_way c false is e = rw e (no_such_packet c is e)
 
   sum_way : (c : Class) (k : Packet) (right : Bool) → Is part.End p → s.running ≡ running.Extended c → s.packets c ≡ some k → is_right_sum c k.packet_type k.contents (second p) ≡ right → Way s p (finished s (heard_by s p).1 c (some k) (second p))

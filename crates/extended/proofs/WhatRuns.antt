@@ -3,7 +3,7 @@
 use mathlib.Core.Bool.{Bool, cond, false}
 use mathlib.Core.Path.{◌≡◌, refl, ap₂, sym}
 use Rattle.code.specs.declared.pair.Pair.{Pair}
-use Rattle.extended.proofs.Ways.{Way, acts, corrupted, ends_in_captions, ends_without_packet, fills, finishes, goes_on_lem, has_wrong_sum, heard_not_refused, is_passed_over, is_text_lem, is_too_long, no_such_packet, starts, way_of}
+use Rattle.extended.proofs.Ways.{Way, acts, corrupted, ends_in_captions, ends_without_packet, fills, finishes, continues, has_wrong_sum, heard_not_refused, is_passed_over, is_text_lem, is_too_long, no_such_packet, starts, way_of}
 use Rattle.extended.specs.Extended.{Read, Reader, read}
 use Rattle.extended.specs.Part.{part_of}
 use Rattle.extended.specs.Reading.{Is, first, is_refused}
@@ -22,7 +22,7 @@ by_way s p _ (corrupted even) = refl
 by_way s p _ (acts is) = taken_so s p _ is _ (heard_not_refused s p is.odd)
 by_way s p _ (is_text_lem is runs) = taken_so s p _ is _ (heard_not_refused s p is.odd)
 by_way s p _ (starts c is) = taken_so s p _ is false refl
-by_way s p _ (goes_on_lem c is there) = taken_so s p _ is false refl
+by_way s p _ (continues c is there) = taken_so s p _ is false refl
 by_way s p _ (no_such_packet c is other) = refl
 by_way s p _ (ends_in_captions is runs) = refl
 by_way s p _ (ends_without_packet c is runs gone) = refl

@@ -21,8 +21,8 @@ pub data Leaves (s : Reader) (p : Pair) : ℕ → Reader → Type 0 where
   no_such_packet : (c : Class) → Is (part.Continuation c) p → is_type (second p) (s.packets c) ≡ false → Leaves s p 13 s
   end_in_captions : Is part.End p → s.running ≡ running.Captions → Leaves s p 13 s
   end_of_no_packet : (c : Class) → Is part.End p → s.running ≡ running.Extended c → s.packets c ≡ none → Leaves s p 13 s
-  too_long_lem : (c : Class) (k : Packet) → Is part.Other p → s.running ≡ running.Extended c → s.packets c ≡ some k → most_contents < length (k.contents ++ content_bytes (first p) (second p)) → Leaves s p 14 (with_packet s c none)
-  wrong_sum_lem : (c : Class) (k : Packet) → Is part.End p → s.running ≡ running.Extended c → s.packets c ≡ some k → is_right_sum c k.packet_type k.contents (second p) ≡ false → Leaves s p 15 (with_packet s c none)
+  too_long : (c : Class) (k : Packet) → Is part.Other p → s.running ≡ running.Extended c → s.packets c ≡ some k → most_contents < length (k.contents ++ content_bytes (first p) (second p)) → Leaves s p 14 (with_packet s c none)
+  of_wrong_sum : (c : Class) (k : Packet) → Is part.End p → s.running ≡ running.Extended c → s.packets c ≡ some k → is_right_sum c k.packet_type k.contents (second p) ≡ false → Leaves s p 15 (with_packet s c none)
 
 -- The same of the record. Beside a packet that is reported stand its contents, and beside every other answer none.
 pub data LeavesRecord (s : ExtendedState) : Step → Type 0 where

@@ -47,7 +47,7 @@ pub data Becomes (c : Class) (s : Reader) (p : Pair) : Option Packet → Type 0 
   begun : Is (part.Start c) p → Becomes c s p (some (record { packet_type = second p; contents = [] }))
   more : (k : Packet) → Is part.Other p → s.running ≡ running.Extended c → s.packets c ≡ some k → length (k.contents ++ content_bytes (first p) (second p)) ≤ most_contents → Becomes c s p (some (record { packet_type = k.packet_type; contents = k.contents ++ content_bytes (first p) (second p) }))
   ended : (k : Packet) → Is part.End p → s.running ≡ running.Extended c → s.packets c ≡ some k → Becomes c s p none
-  too_long_lem : (k : Packet) → Is part.Other p → s.running ≡ running.Extended c → s.packets c ≡ some k → most_contents < length (k.contents ++ content_bytes (first p) (second p)) → Becomes c s p none
+  too_long : (k : Packet) → Is part.Other p → s.running ≡ running.Extended c → s.packets c ≡ some k → most_contents < length (k.contents ++ content_bytes (first p) (second p)) → Becomes c s p none
 
 -- A pair that reports a packet is an end. The packet was open, with this type and these contents, and the sum is right.
 pub record WasOpen (s : Reader) (p : Pair) (c : Class) (t : ℕ) (bs : List ℕ) : Type 0 where

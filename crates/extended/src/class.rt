@@ -2,7 +2,7 @@
 ghost use Rattle.std.specs.Prelude.{◌≡◌};
 ghost use Rattle.extended.specs.Class.{class_number, start_byte};
 
-#[derive(Drop)]
+#[derive(Clone, Copy)]
 pub enum Class {
     Current,
     Future,

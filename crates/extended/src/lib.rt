@@ -1,6 +1,8 @@
 // Captions with the extended data between them: a reading mode beside the receiver's, for field two. Packets are told apart
 // from captions, put together and reported when they are whole.
 
+#![tactic(auto)]
+
 pub mod class;
 pub mod packet;
 pub mod part;

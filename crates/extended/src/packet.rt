@@ -9,21 +9,21 @@ use crate::class::Class;
 pub(crate) const MOST_CONTENTS: usize = 32;
 
 // The first `length` bytes are the contents; a length above 32 means all 32.
-#[derive(Drop)]
+#[derive(Clone, Copy)]
 pub struct Contents {
     pub length: u8,
     pub bytes: [u8; MOST_CONTENTS],
 }
 
 // The second byte of a packet's start.
-#[derive(Drop)]
+#[derive(Clone, Copy)]
 pub enum PacketType {
     Absent,
     Known(u8),
 }
 
 // Where the type is absent there is no packet.
-#[derive(Drop)]
+#[derive(Clone, Copy)]
 pub struct Unfinished {
     pub packet_type: PacketType,
     pub contents: Contents,
@@ -90,6 +90,7 @@ impl Contents {
     }
 
     // The sum of the contents, modulo 128.
+    #[tactic(auto, using(crate::proofs::ContentsLemmas::sum_of_more, crate::proofs::ContentsLemmas::sum_of_rests))]
     pub(crate) fn sum(self) -> u8
         ensures { result ≡ sum_of (contents_of self) % 128 }
     {
@@ -139,6 +140,7 @@ impl Unfinished {
 }
 
 // Whether the bytes of a packet add up to 0 modulo 128.
+#[tactic(auto, using(crate::proofs::ContentsLemmas::rest_of_all))]
 pub(crate) fn is_right_sum(class: Class, packet_type: u8, contents: Contents, sum: u8) -> bool
     ensures { result ≡ is_right_sum class packet_type (contents_of contents) sum }
 {

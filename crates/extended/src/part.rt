@@ -5,7 +5,7 @@ ghost use Rattle.extended.specs.Part.{part_of};
 use crate::class::Class;
 
 // `Other` is text or contents.
-#[derive(Drop)]
+#[derive(Clone, Copy)]
 pub(crate) enum Part {
     Command,
     Start(Class),
@@ -14,6 +14,7 @@ pub(crate) enum Part {
     Other,
 }
 
+#[tactic(auto, using(crate::proofs::Parts::command_part, crate::proofs::Parts::from_ten, crate::proofs::Parts::other_part), unfolding(crate::specs::Part::part_of))]
 pub(crate) fn part_of(first: u8) -> Part
     ensures { result ≡ part_of first }
 {

@@ -13,14 +13,14 @@ use event::Cea608;
 use receiver::{Cea608State, Heard};
 
 // What runs: captions, after a command; or extended data of a class, after a start or a continuation that is not refused.
-#[derive(Drop)]
+#[derive(Clone, Copy)]
 pub enum Running {
     Captions,
     Extended(Class),
 }
 
 // Any contents are a valid state. The packets are those of classes 1 to 7.
-#[derive(Drop)]
+#[derive(Clone, Copy)]
 pub struct ExtendedState {
     pub captions: Cea608State,
     pub running: Running,
@@ -28,7 +28,7 @@ pub struct ExtendedState {
 }
 
 // What a pair gives: an event, nothing, the end of a packet with its class and type, or refusal 1, 13, 14 or 15.
-#[derive(Drop)]
+#[derive(Clone, Copy)]
 pub enum Given {
     Event(Cea608),
     Nothing,
@@ -40,7 +40,7 @@ pub enum Given {
 }
 
 // What a pair gave, with the contents of a finished packet, and the state after it.
-#[derive(Drop)]
+#[derive(Clone, Copy)]
 pub struct Received {
     pub state: ExtendedState,
     pub contents: Contents,
@@ -88,6 +88,7 @@ impl ExtendedState {
     }
 
     // The unfinished packet of a class.
+    #[tactic(auto, using(crate::proofs::Classes::place_below), unfolding(crate::specs::State::packet_at))]
     pub(crate) fn packet(self, class: Class) -> Unfinished
         ensures { result ≡ packet_at self.packets class }
     {
@@ -215,6 +216,7 @@ impl ExtendedState {
     }
 
     // Contents of the class that runs.
+    #[tactic(auto, using(crate::proofs::ContentsLemmas::added_in_turn, crate::proofs::ContentsLemmas::room_for_first, crate::proofs::ContentsLemmas::room_for_second))]
     pub(crate) fn fill(self, captions: Cea608State, class: Class, first: u8, second: u8) -> Received
         ensures { received_outcome result ≡ filled_state self captions class (packet_at self.packets class).packet_type (packet_at self.packets class).contents first second }
     {
@@ -239,6 +241,7 @@ impl ExtendedState {
     }
 
     // Reads one pair. 1 and 13 change nothing; 14 and 15 drop their packet, and change nothing else.
+    #[tactic(auto, using(crate::proofs::Decoding::even_pair, crate::proofs::Decoding::unheard_is_even))]
     pub fn decode(self, pair: Pair) -> Received
         ensures { received_outcome result ≡ step self pair }
     {
