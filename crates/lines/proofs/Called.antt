@@ -7,7 +7,7 @@ use Prim.Native.Nat.{ℕ, ◌≤◌, ◌<◌}
 use native.Mathlib.Omega.{arith}
 use lib.ListN.{drop, length, length-append, length-drop}
 use Rattle.lines.proofs.AnyCutting.{no_more_than_offered}
-use Rattle.lines.proofs.Progress.{no_more_than_room}
+use Rattle.lines.proofs.ProgressLemmas.{no_more_than_room}
 use Rattle.lines.proofs.Whole.{calls_add_up, through_if_not_full}
 use Rattle.lines.specs.Pieces.{Piece, Read, piece_of, read_listing, read_outcome, whole_piece}
 use Rattle.lines.specs.declared.listing.Listing.{Listing}

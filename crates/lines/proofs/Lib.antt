@@ -8,7 +8,7 @@ pub mod Flushing
 pub mod Loops
 pub mod Memory
 pub mod OneAnswer
-pub mod Progress
+pub mod ProgressLemmas
 pub mod Puts
 pub mod Reading
 pub mod Waiting

@@ -13,7 +13,7 @@ use lib.Dec.{ltb}
 use lib.ListN.{drop, drop_of_length-le, length, length-append, take}
 use lib.Seq.{drop-drop, take-length}
 use Rattle.lines.proofs.AnyCutting.{any_cutting}
-use Rattle.lines.proofs.Progress.{output_begins_with}
+use Rattle.lines.proofs.ProgressLemmas.{output_begins_with}
 use Rattle.lines.proofs.Whole.{all_taken, blocks_add_up, calls_add_up, nothing_left_lem, same_piece, through_if_not_full, with_room_for_all}
 use Rattle.lines.specs.Cutting.{Cut, Finished, Run, after_piece, at_end, began, cut_all, cut_once}
 use Rattle.lines.specs.Line.{empty_line, pending}

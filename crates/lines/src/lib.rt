@@ -1,5 +1,7 @@
 // The listing of a stream of pairs, in any pieces: a state by value takes input bytes and gives text as there is room.
 
+#![tactic(auto)]
+
 pub mod line;
 pub mod listing;
 pub mod put;

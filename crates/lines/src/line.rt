@@ -6,7 +6,7 @@ ghost use Rattle.lines.specs.Line.{empty_line, flush_outcome, flushed, has_more}
 pub(crate) const LINE_LENGTH: usize = 96;
 
 // What waits are the bytes from `at` up to `len`.
-#[derive(Drop)]
+#[derive(Clone, Copy)]
 pub struct Line {
     pub bytes: [u8; LINE_LENGTH],
     pub at: usize,
@@ -14,7 +14,7 @@ pub struct Line {
 }
 
 // How many bytes were written, and what is left of the line.
-#[derive(Drop)]
+#[derive(Clone, Copy)]
 pub(crate) struct Flushed {
     pub count: usize,
     pub line: Line,

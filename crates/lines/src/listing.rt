@@ -15,14 +15,14 @@ use receiver::{Cea608State, Heard};
 pub const MOST_PAIRS: u32 = 16_777_216;
 
 // The first byte of a pair whose second has not come.
-#[derive(Drop)]
+#[derive(Clone, Copy)]
 pub enum Half {
     Absent,
     Byte(u8),
 }
 
 // How many pairs were read and refused, what is known of the stream, and the text that waits to be written.
-#[derive(Drop)]
+#[derive(Clone, Copy)]
 pub struct Listing {
     pub receiver: Cea608State,
     pub half: Half,
@@ -33,7 +33,7 @@ pub struct Listing {
 }
 
 // How many bytes of the input were taken, and how many of the output written.
-#[derive(Drop)]
+#[derive(Clone, Copy)]
 pub struct Progress {
     pub taken: usize,
     pub written: usize,
@@ -76,7 +76,7 @@ pub(crate) fn between_pairs(receiver: Cea608State, pairs: u32, refused: u32) -> 
 }
 
 // How far whole pairs were listed, and what is known then.
-#[derive(Drop)]
+#[derive(Clone, Copy)]
 pub(crate) struct Listed {
     pub receiver: Cea608State,
     pub pairs: u32,

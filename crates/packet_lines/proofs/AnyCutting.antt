@@ -10,8 +10,8 @@ use mathlib.Core.Path.{◌≡◌, ap, sym, subst, ◌∙◌}
 use Rattle.extended.proofs.Refines.{fresh_keeps_fresh}
 use Rattle.extended.specs.Extended.{Reader}
 use Rattle.lines.proofs.AnyCutting.{offered_first}
-use Rattle.lines.proofs.Progress.{output_begins_with}
-use Rattle.packet_lines.proofs.Progress.{no_more_than_offered}
+use Rattle.lines.proofs.ProgressLemmas.{output_begins_with}
+use Rattle.packet_lines.proofs.ProgressLemmas.{no_more_than_offered}
 use Rattle.packet_lines.proofs.Turns.{Ends, Sound, a_piece_says, an_end_says, done_is_silent, fresh_sound}
 use Rattle.packet_lines.specs.Calls as calls
 use Rattle.packet_lines.specs.Calls.{Calls, Finished, Run, began, called, says_yet}

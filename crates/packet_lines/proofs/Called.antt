@@ -10,7 +10,7 @@ use mathlib.Core.List.{List, [], ◌∷◌, ◌++◌}
 use mathlib.Core.Path.{◌≡◌, refl, ap, ap₂, sym, ◌∙◌}
 use native.Mathlib.Omega.{arith}
 use Rattle.lines.proofs.AnyCutting.{drop_more}
-use Rattle.packet_lines.proofs.Progress.{a_byte_is_taken, end_within_room, no_more_than_offered, no_more_than_room}
+use Rattle.packet_lines.proofs.ProgressLemmas.{a_byte_is_taken, end_within_room, no_more_than_offered, no_more_than_room}
 use Rattle.packet_lines.specs.Blocks.{whole_end, whole_piece}
 use Rattle.packet_lines.specs.Pieces.{Piece, Read, after_byte, any_text, end_of, end_packets, of_byte, of_end, piece_of, read_as, read_outcome, read_packets, said_only, stays}
 use Rattle.packet_lines.specs.declared.listing.PacketListing.{PacketListing}

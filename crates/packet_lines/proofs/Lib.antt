@@ -3,7 +3,7 @@ pub mod Blocks
 pub mod Bounds
 pub mod Called
 pub mod OneAnswer
-pub mod Progress
+pub mod ProgressLemmas
 pub mod Reading
 pub mod Shown
 pub mod Turns

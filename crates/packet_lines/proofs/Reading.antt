@@ -17,7 +17,7 @@ use Rattle.extended.specs.declared.state.Received.{Received}
 use Rattle.lines.proofs.Puts.{all_places, put_parts, puts_length}
 use Rattle.lines.specs.Put.{Placed, put_all}
 use Rattle.packet_lines.proofs.Bounds.{a_byte_fits, the_end_fits}
-use Rattle.packet_lines.proofs.Progress.{goes_on_lem, no_more_than_room}
+use Rattle.packet_lines.proofs.ProgressLemmas.{goes_on_lem, no_more_than_room}
 use Rattle.packet_lines.specs.Pieces.{Enters, Piece, Read, Says, after_byte, closed, counted, end_packets, ending, entry_outcome, of_byte, of_end, of_pair, piece_of, read_as, read_packets, said_only, without_event, stays, stops}
 use Rattle.packet_lines.specs.Words.{last_line, line_of}
 use Rattle.packet_lines.specs.declared.listing.PacketListing.{PacketListing}

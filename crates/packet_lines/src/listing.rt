@@ -16,7 +16,7 @@ use lines::listing::{MOST_PAIRS, one_more};
 pub const ROOM: usize = 128;
 
 // How many pairs were read, packets finished and pairs refused, and what is known of the stream. Nothing waits in it.
-#[derive(Drop)]
+#[derive(Clone, Copy)]
 pub struct PacketListing {
     pub state: ExtendedState,
     pub half: Half,
@@ -27,7 +27,7 @@ pub struct PacketListing {
 }
 
 // How many bytes of the input were taken, and how many of the output written.
-#[derive(Drop)]
+#[derive(Clone, Copy)]
 pub struct Progress {
     pub taken: usize,
     pub written: usize,
@@ -35,7 +35,7 @@ pub struct Progress {
 }
 
 // The place in the output after some text, and the listing then.
-#[derive(Drop)]
+#[derive(Clone, Copy)]
 pub(crate) struct Said {
     pub written: usize,
     pub listing: PacketListing,
@@ -211,6 +211,7 @@ impl PacketListing {
     }
 
     // Takes a byte, where there is room for any text that it can make.
+    #[tactic(auto, unfolding(crate::specs::Pieces::of_byte))]
     pub(crate) fn absorb(self, byte: u8, out: &mut [u8], at: usize) -> Said
         ensures { Says (of_byte self byte) (at, out.old) result out.new }
     {

@@ -93,6 +93,7 @@ pub(crate) fn put_contents(out: &mut [u8], at: usize, contents: Contents) -> usi
 }
 
 // The class, the type and the contents of a packet.
+#[tactic(auto, using(extended::proofs::Classes::place_below))]
 pub(crate) fn put_packet(
     out: &mut [u8],
     at: usize,
@@ -127,7 +128,7 @@ pub(crate) fn put_packet_line(
 }
 
 // What a pair enters into the text: nothing, the end of a packet with its class and type, or a refusal by its number.
-#[derive(Drop)]
+#[derive(Clone, Copy)]
 pub(crate) enum Entry {
     Nothing,
     Packet(Class, u8),
