@@ -1,7 +1,7 @@
 -- A triplet, from ANSI/CTA-708 as 02 has it: "five bits of one, a valid bit, a two-bit type, two data bytes, most significant
 -- bit first. Type 0 is field one, type 1 field two. Types 2 and 3, and triplets with the valid bit clear, pass through as
 -- found." Both ways: what three bytes are, and the three bytes of a triplet.
-use Rattle.std.specs.Prelude.{ℕ, ◌%◌, ◌*◌, ◌+◌, ◌/◌, Bool, cond, List, [], ◌∷◌, eqb, get_or}
+use Rattle.std.specs.Prelude.{ℕ, ◌%◌, ◌*◌, ◌+◌, ◌/◌, Bool, cond, [], ◌∷◌, eqb, get_or}
 use Rattle.code.specs.Channel.{field_one, field_two}
 use Rattle.code.specs.Outcome.{Outcome, answer, refused}
 use Rattle.code.specs.Pair.{pair}

@@ -7,7 +7,7 @@ ghost use Rattle.code.specs.Outcome.{answer, refused};
 use crate::triplet::{Triplet, has_marker, triplet_of};
 
 // How many triplets. `NotWhole` is refusal 17, `WrongMarker` refusal 16.
-#[derive(Drop)]
+#[derive(Clone, Copy)]
 pub enum CountAnswer {
     Triplets(usize),
     NotWhole,
@@ -15,7 +15,7 @@ pub enum CountAnswer {
 }
 
 // The triplet at a place, or that the packet has none there. `NotWhole` is refusal 17, `WrongMarker` refusal 16.
-#[derive(Drop)]
+#[derive(Clone, Copy)]
 pub enum AtAnswer {
     Is(Triplet),
     PastEnd,
@@ -24,7 +24,7 @@ pub enum AtAnswer {
 }
 
 // What is wrong with bytes that should be whole triplets with right markers: 17 before 16.
-#[derive(Drop)]
+#[derive(Clone, Copy)]
 pub(crate) enum Judged {
     Right,
     NotWhole,

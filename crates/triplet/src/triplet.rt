@@ -5,7 +5,7 @@ ghost use Rattle.triplet.specs.Triplet.{bytes_of, clear, from_bytes_outcome, has
 use code::{Field, Pair};
 
 // What marks a triplet that is no pair of a field: its valid bit is clear, whatever the type, or the type is 2 or 3.
-#[derive(Drop)]
+#[derive(Clone, Copy)]
 pub enum Passing {
     Clear0,
     Clear1,
@@ -16,18 +16,18 @@ pub enum Passing {
 }
 
 // A pair of a field, or two bytes that pass through as found. Each value is one triplet and each triplet one value.
-#[derive(Drop)]
+#[derive(Clone, Copy)]
 pub enum Triplet {
     OfField(Field, Pair),
     PassesThrough(Passing, u8, u8),
 }
 
 // The three bytes of a triplet.
-#[derive(Drop)]
+#[derive(Clone, Copy)]
 pub struct TripletBytes(pub u8, pub u8, pub u8);
 
 // `WrongMarker` is refusal 16.
-#[derive(Drop)]
+#[derive(Clone, Copy)]
 pub enum FromBytes {
     Is(Triplet),
     WrongMarker,

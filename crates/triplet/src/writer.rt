@@ -6,7 +6,7 @@ use crate::packet::{Judged, judge};
 use crate::triplet::Triplet;
 
 // How many bytes the packet has now. `NotWhole` is refusal 17, `WrongMarker` refusal 16, `NoRoom` refusal 31.
-#[derive(Drop)]
+#[derive(Clone, Copy)]
 pub enum PutAnswer {
     Used(usize),
     NotWhole,
@@ -16,6 +16,7 @@ pub enum PutAnswer {
 
 // Writes a triplet after the first `used` bytes. A refusal writes nothing; 31 is also the answer where the packet has fewer
 // bytes than `used`.
+#[tactic(auto, using(crate::proofs::Bytes::three_written))]
 pub fn put(packet: &mut [u8], used: usize, triplet: Triplet) -> PutAnswer
     ensures { (put_outcome result, packet.new) ≡ put_triplet packet.old used triplet }
 {
