@@ -1,6 +1,6 @@
 -- The state after a block, by what `read` answered: bytes, the end of the stream, or nothing.
 -- Assumes nothing.
-use Prim.Native.Nat.{ℕ, min, ◌-◌, ◌≤◌, ◌<◌}
+use Prim.Native.Nat.{ℕ, min, ◌≤◌, ◌<◌}
 use lib.ListN.{length, length-take, take}
 use lib.Seq.{length-take-le, take-length, take-take}
 use mathlib.Core.Bool.{Bool, false, cond}

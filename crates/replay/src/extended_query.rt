@@ -9,14 +9,14 @@ use extended::{Class, Contents, ExtendedState, Given, PacketType, Running, Unfin
 use receiver::{Cea608State, LastChannel, LastField, LastPair};
 
 // The state, and the contents that the last pair gave.
-#[derive(Drop)]
+#[derive(Clone, Copy)]
 pub(crate) struct Kept {
     pub state: ExtendedState,
     pub contents: Contents,
 }
 
 // An answer, and what is kept after it.
-#[derive(Drop)]
+#[derive(Clone, Copy)]
 pub(crate) struct ExtendedAnswered {
     pub answer: [u8; 16],
     pub kept: Kept,

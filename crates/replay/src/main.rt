@@ -1,4 +1,6 @@
 // Answers queries (docs/TESTING.md), so that what is proved can be compared with the Rust crate by running.
+#![tactic(auto)]
+
 mod code_query;
 mod event_bytes;
 mod event_query;
@@ -13,35 +15,36 @@ mod to_bytes;
 ghost use Rattle.std.specs.Prelude.{◌+◌, ◌≤◌, length};
 
 use crate::query::State;
-use libc::{STDIN_FILENO, STDOUT_FILENO};
+use std::io::{Read, Stdin, Write};
 
-fn main() {
-    let mut input = io::large_buffer();
-    let mut output = io::large_buffer();
+// The size of a block: so many whole queries.
+const BLOCK: usize = 65_536;
+
+fn main(rt: HostRuntime) {
+    let mut input = [0u8; BLOCK];
+    let mut output = [0u8; BLOCK];
     let mut state = query::fresh();
-    let mut turns = u64::MAX;
-    let mut more = true;
-    while turns > 0 && more {
-        let done = answer_block(&mut input, &mut output, state);
-        more = done.more;
-        let next = done.state;
-        state = next;
-        turns -= 1;
+    for _ in 0..u64::MAX {
+        let done = answer_block(&rt, &mut input, &mut output, state);
+        if !done.more {
+            break;
+        }
+        state = done.state;
     }
 }
 
 // What is kept after a block, and whether there may be more.
-#[derive(Drop)]
+#[derive(Clone, Copy)]
 struct Done {
     more: bool,
     state: State,
 }
 
 // Reads as much as there is room for and answers each whole query.
-fn answer_block(input: &mut [u8], output: &mut [u8], begun: State) -> Done
+fn answer_block(rt: &HostRuntime, input: &mut [u8], output: &mut [u8], begun: State) -> Done
     requires { length input.old ≤ length output.old }
 {
-    let got = io::read_full(STDIN_FILENO, input);
+    let got = read_full(&mut rt.stdin(), input);
     let whole = got / 16 * 16;
     let mut state = begun;
     let mut at: usize = 0;
@@ -51,13 +54,28 @@ fn answer_block(input: &mut [u8], output: &mut [u8], begun: State) -> Done
         at += 16;
     }
     let mut more = false;
-    if io::write_all(STDOUT_FILENO, &output[..whole]) {
+    if rt.stdout().write_all(&output[..whole]).is_ok() {
         more = got == input.len();
     }
     Done {
         more: more,
         state: state,
     }
+}
+
+// Reads until the block is full, the input ends or a read fails, and answers how many bytes there are.
+fn read_full(from: &mut Stdin, input: &mut [u8]) -> usize
+    ensures { result ≤ length input.new }
+{
+    let mut got: usize = 0;
+    while got < input.len() {
+        match from.read(&mut input[got..]) {
+            Ok(0) => break,
+            Ok(count) => got += count,
+            Err(_) => break,
+        }
+    }
+    got
 }
 
 // Answers the query at a place, and gives the state after it.

@@ -7,7 +7,7 @@ use receiver::Cea608State;
 use sender::Sender;
 
 // What queries change and later queries ask.
-#[derive(Drop)]
+#[derive(Clone, Copy)]
 pub(crate) struct State {
     pub receiver: Cea608State,
     pub sender: Sender,
@@ -15,7 +15,7 @@ pub(crate) struct State {
 }
 
 // An answer, and the state for the next query.
-#[derive(Drop)]
+#[derive(Clone, Copy)]
 pub(crate) struct Answered {
     pub bytes: [u8; 16],
     pub state: State,

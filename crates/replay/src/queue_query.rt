@@ -8,7 +8,7 @@ use code::Code;
 use queue::{CountAnswer, Held, PopAnswer, PushAnswer, Queue};
 
 // An answer, and the queue as the query left it.
-#[derive(Drop)]
+#[derive(Clone, Copy)]
 pub(crate) struct QueueAnswered {
     pub answer: [u8; 16],
     pub queue: Queue,

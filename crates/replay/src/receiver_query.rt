@@ -5,7 +5,7 @@ use code::Pair;
 use receiver::{Cea608State, Heard, LastField};
 
 // An answer, and the receiver as the query left it.
-#[derive(Drop)]
+#[derive(Clone, Copy)]
 pub(crate) struct ReceiverAnswered {
     pub answer: [u8; 16],
     pub receiver: Cea608State,

@@ -8,7 +8,7 @@ use code::{Code, Pair};
 use sender::{DrainAnswer, Drained, IdleAnswer, Owed, Repeats, Sender};
 
 // An answer, and the sender as the query left it.
-#[derive(Drop)]
+#[derive(Clone, Copy)]
 pub(crate) struct SenderAnswered {
     pub answer: [u8; 16],
     pub sender: Sender,

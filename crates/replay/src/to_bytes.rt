@@ -2,7 +2,7 @@
 use code::{Code, CodeField, Control, MaybeColor, MaybeIndent, PreambleType};
 
 // A code's six bytes.
-#[derive(Drop)]
+#[derive(Clone, Copy)]
 pub(crate) struct CodeBytes {
     pub kind: u8,
     pub field: u8,
