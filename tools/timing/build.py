@@ -1,10 +1,10 @@
 """Builds what is timed, ours and the crate's, for this machine's kind of processor, and not for its model.
 
-Ours is proved by rt, which builds it for x86-64 alone. Here the same sources are compiled without a proof: of the program
-behind `rt try` the module is kept that it hands to the compiler, and compiled once more. Only times are taken from it."""
-import os
+The whole programs are ours as rt builds them, proved. The calls by themselves are made by programs that are not proved,
+calls.rattle and sends.rattle: an older toolchain compiled them so, and its compiler's module was kept. Today's rt builds no
+program without a proof, and tests each step of one that it only tries, so that a time would say nothing. They wait for a
+proof of their own."""
 import pathlib
-import platform
 import subprocess
 import sys
 
@@ -12,15 +12,6 @@ HERE = pathlib.Path(__file__).resolve().parent
 ROOT = HERE.parent.parent
 BUILT = ROOT / "built/timing"
 LAYERS = ("code", "event", "receiver", "queue", "sender")
-
-# A compiler in the toolchain's place, which keeps each module that is compiled with optimisation.
-KEEPS = """#!/bin/sh
-case " $* " in *" -O3 "*)
-    for word in "$@"; do case $word in *.ll | *.bc) cp "$word" '{module}' ;; esac; done ;;
-esac
-exec '{clang}' "$@"
-"""
-
 
 def output_of(words):
     return subprocess.run(words, stdout=subprocess.PIPE, check=True, text=True).stdout.strip()
@@ -31,16 +22,10 @@ def write(path, text):
     path.write_text(text)
 
 
-def keeping(toolchain, module):
-    """A folder like the toolchain's, with the compiler that keeps the module."""
-    folder = BUILT / "toolchain"
-    (folder / "bin").mkdir(parents=True, exist_ok=True)
-    for part in ("lib", *(f"bin/{tool.name}" for tool in (toolchain / "bin").iterdir() if tool.name != "clang")):
-        (folder / part).unlink(missing_ok=True)
-        (folder / part).symlink_to(toolchain / part)
-    write(folder / "bin/clang", KEEPS.format(module=module, clang=toolchain / "bin/clang"))
-    (folder / "bin/clang").chmod(0o755)
-    return folder
+def proved(name):
+    """A program of this repository, proved and built."""
+    subprocess.run([ROOT / "run", name], stdin=subprocess.DEVNULL, stdout=subprocess.DEVNULL, check=True)
+    return ROOT / "crates" / name / "out" / name
 
 
 def sourced(name, parts):
@@ -51,29 +36,8 @@ def sourced(name, parts):
 
 
 def build_ours(name, main, libraries):
-    """Our program of a source, over libraries of this repository and of the kit."""
-    toolchain = pathlib.Path(output_of([ROOT / "tools/toolchain"]))
-    home, module = toolchain.parent.parent.parent, BUILT / f"{name}.bc"
-    BUILT.mkdir(parents=True, exist_ok=True)
-    module.unlink(missing_ok=True)
-    words = [toolchain.parent / "bin/rattle-cases", "--toolchain", keeping(toolchain, module), "--stdin", os.devnull]
-    words += ["--link", home / "lib/libos_c.a"] if "os" in libraries else []
-    words += [main, "--crate-name", name]
-    for library in ("std", *libraries):
-        own = ROOT / "crates" / library / "src/lib.rt"
-        words += ["--lib", f"{library}={own if own.is_file() else home / 'libs' / library / 'src/lib.rt'}"]
-    said = subprocess.run(words, stdout=subprocess.PIPE, stderr=subprocess.STDOUT, text=True).stdout
-    if not module.is_file():
-        sys.exit(f"bench: {name} is not compiled:\n{said}")
-    target = f"--target={platform.machine()}-linux-gnu"
-    compiled = ["-O3", "-w", "-c", "-fPIC", "-x", "ir", module, "-o", module.with_suffix(".o")]
-    # It says of each function that it does not know the x86-64 that the module names.
-    done = subprocess.run([toolchain / "bin/clang", target, *compiled], stderr=subprocess.PIPE, text=True)
-    if done.returncode:
-        sys.exit(f"bench: {name} is not compiled for this machine:\n{done.stderr}")
-    program = BUILT / name
-    subprocess.run(["gcc", "-O2", module.with_suffix(".o"), HERE / "os.c", "-o", program], check=True)
-    return program
+    """Our program of a source that is not proved, over libraries of this repository and of the kit."""
+    sys.exit(f"bench: {name} is not timed: today's rt builds no program without a proof ({main.relative_to(ROOT)})")
 
 
 MANIFEST = """[package]

@@ -9,11 +9,10 @@ import subprocess
 import sys
 
 from timing import measure, streams
-from timing.build import BUILT, ROOT, build_ours, output_of
+from timing.build import BUILT, ROOT, output_of, proved
 
 PAIRS = 1_000_000
 RUNS = 9
-LINES = ("lines", "receiver", "event", "code", "io", "libc", "os")
 
 
 def long_stream(oracle):
@@ -48,8 +47,7 @@ def costs(programs, stream, compared):
 
 
 def listing_costs(oracle, folder):
-    ours = build_ours("listing", ROOT / "crates/listing/src/main.rt", LINES)
-    return costs({"ours": ours, "crate": folder / "plain"}, long_stream(oracle), bytes)
+    return costs({"ours": proved("listing"), "crate": folder / "plain"}, long_stream(oracle), bytes)
 
 
 def packet_lines(text):
@@ -57,6 +55,5 @@ def packet_lines(text):
 
 
 def packets_costs():
-    ours = build_ours("packets", ROOT / "crates/packets/src/main.rt", ("packet_lines", "extended", *LINES))
     zvbi = f"{output_of([ROOT / 'tools/build-zvbi'])}/packets"
-    return costs({"ours": ours, "zvbi": zvbi}, packets_stream(), packet_lines)
+    return costs({"ours": proved("packets"), "zvbi": zvbi}, packets_stream(), packet_lines)
