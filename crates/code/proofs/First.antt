@@ -1,6 +1,6 @@
 -- The first entry of a table that has a given number, determined by the entries.
 -- Assumes nothing.
-use mathlib.Core.Path.{◌≡◌, refl, sym, ap}
+use mathlib.Core.Path.{◌≡◌, refl, sym, ap, ◌∙◌}
 use mathlib.Core.List.{List, [], ◌∷◌, map}
 use mathlib.Core.Bool.{Bool, true, false, cond}
 use mathlib.Core.Option.{Option, none, some, none-ne-some, some-injective}
@@ -10,7 +10,8 @@ use native.Mathlib.Omega.{arith}
 use borrow.Author.Tests.{eq-eqb, ne_eqb}
 use lib.ListN.{length, get_or}
 use Rattle.code.specs.Position.{first_place, later, position}
-use Rattle.code.specs.Tables.{found_at}
+use Rattle.code.specs.Tables.{found_at, point_of}
+use Rattle.code.specs.declared.tables.Found.{Found}
 use Rattle.code.specs.declared.tables.Found.TheVariants.{At, Absent}
 
 -- entry i has x, and none before it has
@@ -55,10 +56,21 @@ first_passes test (y ∷ ys) d i e =
     passes_by test y ys d i (test y) refl (λ j p. first_passes test ys d j p) e
 
 -- what a search reports determines the place
-pub found_some : (o : Option ℕ) (i : ℕ) → found_at o ≡ At i → o ≡ some i
+found_some : (o : Option ℕ) (i : ℕ) → found_at o ≡ At i → o ≡ some i
 found_some none i e = let z : ◌≡◌ {A = ℕ} 0 1 = cc in absurd (omega arith)
 found_some (some j) i e = cc
 
-pub found_none : (o : Option ℕ) → found_at o ≡ Absent → o ≡ none
+found_none : (o : Option ℕ) → found_at o ≡ Absent → o ≡ none
 found_none none e = refl
 found_none (some j) e = let z : ◌≡◌ {A = ℕ} 0 1 = cc in absurd (omega arith)
+
+-- a search over a table of code points that is the definition's table is a search over that one
+searched : (x : ℕ) (table entries : List ℕ) (r : Found) → r ≡ found_at (position x (map point_of table)) → table ≡ entries → found_at (position x (map point_of entries)) ≡ r
+searched x table entries r is same = sym (is ∙ ap (λ (t : List ℕ). found_at (position x (map point_of t))) same)
+
+-- so it finds a place of the definition's table, or none
+pub searched_some : (x i : ℕ) (table entries : List ℕ) → At i ≡ found_at (position x (map point_of table)) → table ≡ entries → position x (map point_of entries) ≡ some i
+searched_some x i table entries is same = found_some (position x (map point_of entries)) i (searched x table entries (At i) is same)
+
+pub searched_none : (x : ℕ) (table entries : List ℕ) → Absent ≡ found_at (position x (map point_of table)) → table ≡ entries → position x (map point_of entries) ≡ none
+searched_none x table entries is same = found_none (position x (map point_of entries)) (searched x table entries Absent is same)

@@ -45,7 +45,7 @@ decided_other p b =
 abbrev pub decided : ℕ → ℕ → Option Control
 decided p b = cond (leb 0x40 b) (decided_row p b) (decided_other p b)
 
-pub decided_is : (p b : ℕ) → 16 ≤ p → p < 24 → b < 128 → decided p b ≡ meaning p b
+decided_is : (p b : ℕ) → 16 ≤ p → p < 24 → b < 128 → decided p b ≡ meaning p b
 unfolding meaning
 decided_is p b from below less = agree_grid decided meaning 16 8 128 refl p b from below less
 

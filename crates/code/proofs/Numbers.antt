@@ -57,7 +57,7 @@ column_back CD = (lit< tt, refl)
 column_back CE = (lit< tt, refl)
 column_back CF = (lit< tt, refl)
 
-pub letter_row_back : (r : LetterRow) → Back letter_row_at letter_row_number 6 r
+letter_row_back : (r : LetterRow) → Back letter_row_at letter_row_number 6 r
 letter_row_back Row2 = (lit< tt, refl)
 letter_row_back Row3 = (lit< tt, refl)
 letter_row_back Row4 = (lit< tt, refl)

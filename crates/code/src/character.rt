@@ -40,7 +40,7 @@ impl Character {
 
 impl Letter {
     // The letter's character.
-    #[tactic(auto, using(crate::proofs::Bytes::letter_point, crate::proofs::Numbers::letter_small))]
+    #[tactic(auto, using(crate::proofs::Bytes::letter_point))]
     pub(crate) fn char(self) -> Character
         ensures { result ≡ letter_char self }
     {
@@ -50,7 +50,7 @@ impl Letter {
 
 impl Symbol {
     // The symbol's character; the transparent space has none.
-    #[tactic(auto, using(crate::proofs::Bytes::symbol_point, crate::proofs::Numbers::symbol_small))]
+    #[tactic(auto, using(crate::proofs::Bytes::symbol_point))]
     pub(crate) fn char(self) -> Character
         ensures { result ≡ symbol_char self }
     {

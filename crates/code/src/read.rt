@@ -31,7 +31,7 @@ pub(crate) enum Meaning {
 impl Code {
     // The codes of a pair: a command and NUL, or two single codes. Of a command 10 to 17 is channel one, 18 to 1F two; with
     // a call for each, the compiler leaves the parsing out of the code for text.
-    #[tactic(auto, using(crate::proofs::Meaning::in_row_one), unfolding(crate::specs::Read::read_pair))]
+    #[tactic(auto, unfolding(crate::specs::Read::read_pair))]
     pub fn from_data(pair: Pair) -> FromData
         ensures { from_data_outcome result ≡ read_pair pair.0 pair.1 }
     {
@@ -74,7 +74,6 @@ impl Code {
 
 impl ControlCode {
     // The control code of two stripped bytes, for the channel that the first names.
-    #[tactic(auto, using(crate::proofs::Meaning::parsed, crate::proofs::Meaning::without_field_between))]
     pub(crate) fn parse(channel: Channel, first: u8, second: u8) -> ControlCode
         requires { (16 ≤ first) × (first < 32) × (second < 128) × (channel ≡ channel_of first) }
         ensures { result ≡ control_code_of first second }
@@ -122,7 +121,7 @@ pub(crate) fn without_field(prefix: u8, second: u8) -> u8
 
 impl Control {
     // What two bytes mean, channel and field aside: below 40 the first byte and the second's upper digit decide.
-    #[tactic(auto, using(crate::proofs::Meaning::other_told, crate::proofs::Meaning::decided_other))]
+    #[tactic(auto, using(crate::proofs::Meaning::other_told))]
     pub(crate) fn parse(prefix: u8, second: u8) -> Meaning
         requires { (16 ≤ prefix) × (prefix < 24) × (second < 128) }
         ensures { result ≡ meaning_of (meaning prefix second) }
@@ -182,7 +181,7 @@ impl Control {
     }
 
     // The preamble of two bytes, or nothing: 10 before 60 to 7F is no row.
-    #[tactic(auto, using(crate::proofs::Meaning::row_told, crate::proofs::Meaning::first_row_small))]
+    #[tactic(auto, using(crate::proofs::Meaning::row_told))]
     pub(crate) fn parse_preamble(prefix: u8, second: u8) -> Meaning
         requires { (16 ≤ prefix) × (prefix < 24) × (64 ≤ second) × (second < 128) }
         ensures { result ≡ meaning_of (meaning prefix second) }

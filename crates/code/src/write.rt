@@ -49,7 +49,7 @@ pub(crate) enum Bytes {
 
 impl Code {
     // The pair that the code is sent as: a single code with NUL after it, a command by itself.
-    #[tactic(auto, using(crate::proofs::Numbers::letter_small), unfolding(crate::specs::Write::write_code))]
+    #[tactic(auto, unfolding(crate::specs::Write::write_code))]
     pub fn write(self) -> Written
         ensures { written_outcome result ≡ write_code self }
     {

@@ -3,7 +3,7 @@
 use denote.Enum.Declared.{tag_of}
 use mathlib.Core.Bool.{Bool, true, false}
 use mathlib.Core.List.{[], ◌∷◌}
-use mathlib.Core.Path.{◌≡◌, refl, ap, sym, ◌∙◌}
+use mathlib.Core.Path.{◌≡◌, refl, ap, subst, sym, ◌∙◌}
 use types.Run.{OneOf, miss}
 use Rattle.code.proofs.OneAnswer.{clash}
 use Rattle.code.specs.Outcome.{refused}
@@ -41,29 +41,24 @@ pub unheard_is_even : (r : Cea608State) (p : Pair) (d : Decoded) → decoded_out
 unheard_is_even r p d e unheard =
     refused_is_even r p (is_odd_pair p) refl (ap (λ (x : Stepped). x.0) (sym e) ∙ ap heard_outcome unheard)
 
-heard_is_no_refusal : (h : Heard) → OneOf (0 ∷ 1 ∷ []) (tag_of the_type h) → heard_outcome h ≡ refused 1 → ⊥
-heard_is_no_refusal (heard.Event e) left c = clash c
-heard_is_no_refusal heard.Nothing left c = clash c
-heard_is_no_refusal heard.InvalidParity left c = miss (0 ∷ 1 ∷ []) 2 tt left
-
 odd_or_refused : (r : Cea608State) (p : Pair) (t : Bool) → is_odd_pair p ≡ t → ((receiver.step r p).0 ≡ refused 1 → ⊥) → t ≡ true
 odd_or_refused r p true odd e = refl
 odd_or_refused r p false even e = absurd (e (ap (λ (x : Stepped). x.0) (even_is_refused_1 r p even)))
-
--- what is heard has odd parity; the numbers are those of the answers that are left
-pub heard_is_odd : (r : Cea608State) (p : Pair) (d : Decoded) → decoded_outcome d ≡ receiver.step r p → OneOf (0 ∷ 1 ∷ []) (tag_of the_type d.answer) → is_odd_pair p ≡ true
-heard_is_odd r p d e left =
-    odd_or_refused r p (is_odd_pair p) refl (λ (c : (receiver.step r p).0 ≡ refused 1). heard_is_no_refusal d.answer left (ap (λ (x : Stepped). x.0) e ∙ c))
 
 no_refusal : (h : Heard) → (h ≡ heard.InvalidParity → ⊥) → heard_outcome h ≡ refused 1 → ⊥
 no_refusal (heard.Event e) other c = clash c
 no_refusal heard.Nothing other c = clash c
 no_refusal heard.InvalidParity other c = other refl
 
--- the same, where the answer is only known to be no refusal
+-- what is no refusal has odd parity
 pub not_refused_is_odd : (r : Cea608State) (p : Pair) (d : Decoded) → decoded_outcome d ≡ receiver.step r p → (d.answer ≡ heard.InvalidParity → ⊥) → is_odd_pair p ≡ true
 not_refused_is_odd r p d e other =
     odd_or_refused r p (is_odd_pair p) refl (λ (c : (receiver.step r p).0 ≡ refused 1). no_refusal d.answer other (ap (λ (x : Stepped). x.0) e ∙ c))
+
+-- the same, where the answer is known by the numbers of those that are left
+pub heard_is_odd : (r : Cea608State) (p : Pair) (d : Decoded) → decoded_outcome d ≡ receiver.step r p → OneOf (0 ∷ 1 ∷ []) (tag_of the_type d.answer) → is_odd_pair p ≡ true
+heard_is_odd r p d e left =
+    not_refused_is_odd r p d e (λ is. miss (0 ∷ 1 ∷ []) 2 tt (subst (λ (h : Heard). OneOf (0 ∷ 1 ∷ []) (tag_of the_type h)) is left))
 
 -- by the part of the pair, and what the captions' receiver answers
 pub by_part_lem : (s : ExtendedState) (p : Pair) (d : Decoded) (x : Part) → decoded_outcome d ≡ receiver.step s.captions p → is_odd_pair p ≡ true → part_of (stripped p.0) ≡ x → step s p ≡ by_part_state s (decoded_outcome d) x (stripped p.0) (stripped p.1)

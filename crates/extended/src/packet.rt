@@ -90,7 +90,7 @@ impl Contents {
     }
 
     // The sum of the contents, modulo 128.
-    #[tactic(auto, using(crate::proofs::ContentsLemmas::sum_of_more, crate::proofs::ContentsLemmas::sum_of_rests))]
+    #[tactic(auto, using(crate::proofs::ContentsLemmas::sum_of_more))]
     pub(crate) fn sum(self) -> u8
         ensures { result ≡ sum_of (contents_of self) % 128 }
     {
@@ -140,7 +140,6 @@ impl Unfinished {
 }
 
 // Whether the bytes of a packet add up to 0 modulo 128.
-#[tactic(auto, using(crate::proofs::ContentsLemmas::rest_of_all))]
 pub(crate) fn is_right_sum(class: Class, packet_type: u8, contents: Contents, sum: u8) -> bool
     ensures { result ≡ is_right_sum class packet_type (contents_of contents) sum }
 {

@@ -14,7 +14,7 @@ pub(crate) enum Part {
     Other,
 }
 
-#[tactic(auto, using(crate::proofs::Parts::command_part, crate::proofs::Parts::from_ten, crate::proofs::Parts::other_part), unfolding(crate::specs::Part::part_of))]
+#[tactic(auto, unfolding(crate::specs::Part::part_of))]
 pub(crate) fn part_of(first: u8) -> Part
     ensures { result ≡ part_of first }
 {

@@ -88,7 +88,7 @@ impl ExtendedState {
     }
 
     // The unfinished packet of a class.
-    #[tactic(auto, using(crate::proofs::Classes::place_below), unfolding(crate::specs::State::packet_at))]
+    #[tactic(auto, unfolding(crate::specs::State::packet_at))]
     pub(crate) fn packet(self, class: Class) -> Unfinished
         ensures { result ≡ packet_at self.packets class }
     {
@@ -216,7 +216,6 @@ impl ExtendedState {
     }
 
     // Contents of the class that runs.
-    #[tactic(auto, using(crate::proofs::ContentsLemmas::added_in_turn, crate::proofs::ContentsLemmas::room_for_first, crate::proofs::ContentsLemmas::room_for_second))]
     pub(crate) fn fill(self, captions: Cea608State, class: Class, first: u8, second: u8) -> Received
         ensures { received_outcome result ≡ filled_state self captions class (packet_at self.packets class).packet_type (packet_at self.packets class).contents first second }
     {

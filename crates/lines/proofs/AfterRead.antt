@@ -3,7 +3,7 @@
 use Prim.Native.Nat.{ℕ, ◌-◌, ◌^◌, min, suc}
 use borrow.Author.Tests.{ltb-true, ne_eqb}
 use lib.Dec.{eqb}
-use lib.IntN.{ℤ, negsuc, pos}
+use lib.IntN.{ℤ, negsuc, pos, nat_abs}
 use lib.ListN.{length, take}
 use lib.Signed.{lt_z}
 use mathlib.Core.Bool.{Bool, false, not, true, true≢false}
@@ -38,6 +38,10 @@ module _ {S : Type 0} (after : S → List ℕ → S) (got error : ℤ) (fits : S
           λ (fine : failed ≡ false).
           leaves fine ∙ ap (after begun) (ap (λ (m : ℕ). take m input) (count ∙ clamps k (length input)) ∙ take_min k input)
       of (negsuc k) e count = absurd (true≢false e)
+
+  -- the same as a program says it: the smaller of the answer and of what the input has
+  pub of_as_many : (failed : Bool) (next : S) (n : ℕ) → lt_z answered (pos 0) ≡ false → n ≡ min (nat_abs answered) (length input) → (failed ≡ false → next ≡ after begun (take n input)) → AfterRead after got error begun input failed next
+  of_as_many = of_bytes (λ (z : ℤ) (m : ℕ). min (nat_abs z) m) (λ k m. refl)
 
   pub of_nothing : SFits w32 error → lt_z answered (pos 0) ≡ true → AfterRead after got error begun input (not (eqb (of_z w32 error) 4)) begun
   of_nothing small none = by_the_answer _ begun (of answered none)

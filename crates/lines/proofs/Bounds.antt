@@ -31,10 +31,10 @@ one_digit : (t : Bool) (d : ℕ) → length (cond t (d ∷ []) []) ≤ 1
 one_digit true d = omega arith
 one_digit false d = omega arith
 
-pub at_place_lem : (p n : ℕ) → length (at_place p n) ≤ 1
+at_place_lem : (p n : ℕ) → length (at_place p n) ≤ 1
 at_place_lem p n = one_digit (leb p n) _
 
-pub places_short : (ps : List ℕ) (n : ℕ) → length (at_places ps n) ≤ length ps + 1
+places_short : (ps : List ℕ) (n : ℕ) → length (at_places ps n) ≤ length ps + 1
 places_short [] n = omega arith
 places_short (p ∷ ps) n = omega (arith, length-append (at_place p n) (at_places ps n), at_place_lem p n, places_short ps n)
 
@@ -53,7 +53,7 @@ eight_digits n less =
     let rest : List ℕ = 10000000 ∷ 1000000 ∷ 100000 ∷ 10000 ∷ 1000 ∷ 100 ∷ 10 ∷ [] in
     rw (lt-leb 1000000000 n (omega (arith, less))) (not_reached 100000000 rest n less)
 
-pub character_short : (c : Character) → length (character_word c) ≤ 4
+character_short : (c : Character) → length (character_word c) ≤ 4
 character_short character.Absent = omega arith
 character_short (character.Point p) = omega arith
 

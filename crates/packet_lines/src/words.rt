@@ -93,7 +93,6 @@ pub(crate) fn put_contents(out: &mut [u8], at: usize, contents: Contents) -> usi
 }
 
 // The class, the type and the contents of a packet.
-#[tactic(auto, using(extended::proofs::Classes::place_below))]
 pub(crate) fn put_packet(
     out: &mut [u8],
     at: usize,

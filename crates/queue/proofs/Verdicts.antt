@@ -64,7 +64,7 @@ passes whose a b n la lb first e =
     as_tested whose (control.Unknown a b) _ (rw (lt-ltb a 0x80 la, lt-ltb b 0x80 lb, yes) (ap (λ (k : ℕ). answer (some k)) sum))
 
 -- its field and channel
-pub field_at_most : (f : CodeField) → field_number f ≤ 0x4000
+field_at_most : (f : CodeField) → field_number f ≤ 0x4000
 field_at_most Absent = omega arith
 field_at_most (Of f) = either f.0
   where

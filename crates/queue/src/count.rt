@@ -32,7 +32,7 @@ impl Held {
 
 impl Queue {
     // The codes that wait, and the held one.
-    #[tactic(auto, using(crate::proofs::WellFormed::formed, crate::proofs::WellFormed::one_held, crate::proofs::Places::how_many_lem), unfolding(crate::specs::Ring::count_ring))]
+    #[tactic(auto, using(crate::proofs::Places::how_many_lem), unfolding(crate::specs::Ring::count_ring))]
     pub fn n_codes(self) -> Counted
         ensures { count_outcome result ≡ count_ring self }
     {

@@ -38,7 +38,7 @@ fn whose_number(code: ControlCode) -> u16
 }
 
 // An `Unknown` of two bytes. Where its first byte is not 10 to 1F it is text dressed as a command.
-#[tactic(auto, using(crate::proofs::Verdicts::dressed, crate::proofs::Verdicts::passes, crate::proofs::Verdicts::as_tested))]
+#[tactic(auto, using(crate::proofs::Verdicts::dressed, crate::proofs::Verdicts::passes))]
 fn number_unknown(whose: u16, first: u8, second: u8) -> Verdict
     requires { whose ≤ 0x5000 }
     ensures { verdict_outcome result ≡ numbered_unknown whose first second }
@@ -56,7 +56,7 @@ fn number_unknown(whose: u16, first: u8, second: u8) -> Verdict
 }
 
 // A control. Each kind by itself and not by `Control::bytes`: the compiler then keeps the control in registers.
-#[tactic(auto, using(crate::proofs::Verdicts::as_tested, crate::proofs::Verdicts::row_inside, crate::proofs::Verdicts::row_outside), unfolding(code::specs::Write::control_bytes))]
+#[tactic(auto, using(crate::proofs::Verdicts::as_tested), unfolding(code::specs::Write::control_bytes))]
 fn number_control(whose: u16, control: Control) -> Verdict
     requires { whose ≤ 0x5000 }
     ensures { verdict_outcome result ≡ numbered_control whose control }
@@ -75,7 +75,7 @@ fn number_control(whose: u16, control: Control) -> Verdict
 }
 
 // The number of a code that may be queued.
-#[tactic(auto, using(crate::proofs::Verdicts::by_control, crate::proofs::Verdicts::byte_passes, crate::proofs::Verdicts::byte_refused, crate::proofs::Verdicts::letter_passes, crate::proofs::Verdicts::nul_passes, crate::proofs::Verdicts::whose_at_most))]
+#[tactic(auto, using(crate::proofs::Verdicts::by_control, crate::proofs::Verdicts::nul_passes))]
 pub(crate) fn numbered(code: Code) -> Verdict
     ensures { verdict_outcome result ≡ numbered code }
 {

@@ -39,7 +39,7 @@ pub(crate) fn has_nothing(waiting: usize, held: Held, repeats: Repeats) -> bool
 
 impl Sender {
     // Whether all that was accepted has been sent, each command twice.
-    #[tactic(auto, using(crate::proofs::NothingLeft::idle_by_parts), unfolding(crate::specs::Sender::idle_sender))]
+    #[tactic(auto, unfolding(crate::specs::Sender::idle_sender))]
     pub fn is_idle(self) -> Idleness
         ensures { idle_outcome result ≡ idle_sender self }
     {
