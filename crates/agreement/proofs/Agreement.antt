@@ -4,7 +4,7 @@
 -- Assumes nothing.
 use mathlib.Core.Bool.{true}
 use mathlib.Core.List.{List, [], ◌++◌, append-nil}
-use mathlib.Core.Option.{none}
+use Rattle.std.specs.Prelude.{None}
 use mathlib.Core.Path.{◌≡◌, refl, ap, sym, subst, ◌∙◌}
 use Rattle.code.specs.declared.pair.Pair.{Pair}
 use Rattle.receiver.specs.Receiver.{fresh}
@@ -27,7 +27,7 @@ pub odd_pairs_agree : (ps arrived : List Pair) → AllOdd ps → Line (doubled p
 odd_pairs_agree ps arrived odd line =
     let sent_odd = doubled_is_odd ps odd in
     let passed = line_one_by_one (doubled ps) arrived sent_odd line in
-    let heard = doubled_is_decoded_once ps odd none arrived fresh fresh passed refl (record { channel = refl; field = refl }) in
+    let heard = doubled_is_decoded_once ps odd None arrived fresh fresh passed refl (record { channel = refl; field = refl }) in
     record {
       same_events = heard.same_events;
       same_channel = heard.ends_same.channel;

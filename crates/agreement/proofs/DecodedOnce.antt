@@ -4,7 +4,7 @@
 -- Assumes nothing.
 use mathlib.Core.Bool.{Bool, true, false, cond, true≢false}
 use mathlib.Core.List.{List, [], ◌∷◌}
-use mathlib.Core.Option.{Option, none, some}
+use Rattle.std.specs.Prelude.{Option, None, Some}
 use mathlib.Core.Path.{◌≡◌, refl, ap, sym, subst, ◌∙◌}
 use Rattle.code.proofs.Both.{both_true}
 use Rattle.code.proofs.WrittenLemmas.{read_as_command}
@@ -43,18 +43,18 @@ pub record Agrees (s t : Cea608State) (arrived ps : List Pair) : Type 0 where
 
 -- what the receiver holds: after a corrupted copy the stretch's own command, else no command
 abbrev pub Ready : Option Pair → LastPair → Type 0
-Ready none l = awaits l ≡ false
-Ready (some p) l = l ≡ last.Was p
+Ready None l = awaits l ≡ false
+Ready (Some p) l = l ≡ last.Was p
 
 -- so it takes a copy for a repeat exactly where one was corrupted before in the stretch
 repeat_is_told : (h : Option Pair) (l : LastPair) (p : Pair) (c : ControlCode) → IsCommand p c → Ready h l → is_last p l ≡ was_corrupted h p
-repeat_is_told none l p c k r = quiet_is_no_repeat p c k.0 l k.1 r
-repeat_is_told (some q) l p c k r = ap (is_last p) r
+repeat_is_told None l p c k r = quiet_is_no_repeat p c k.0 l k.1 r
+repeat_is_told (Some q) l p c k r = ap (is_last p) r
 
 -- an answer before both, and one without an event before what arrived alone
 pub events_after : (o : Outcome (Option Cea608)) (xs ys : List (Outcome (Option Cea608))) → events xs ≡ events ys → events (o ∷ xs) ≡ events (o ∷ ys)
-events_after (answer none) xs ys e = e
-events_after (answer (some x)) xs ys e = ap (λ (l : List Cea608). x ∷ l) e
+events_after (answer None) xs ys e = e
+events_after (answer (Some x)) xs ys e = ap (λ (l : List Cea608). x ∷ l) e
 events_after (refused n) xs ys e = e
 
 heard_in_front : (s t s' t' : Cea608State) (o : Outcome (Option Cea608)) (q p : Pair) (qs ps : List Pair) → step s q ≡ (o, s') → once t p ≡ (o, t') → Agrees s' t' qs ps → Agrees s t (q ∷ qs) (p ∷ ps)
@@ -63,7 +63,7 @@ heard_in_front s t s' t' o q p qs ps one other a = record {
   ends_same = rw (one, other) a.ends_same;
 }
 
-silent_in_front : (s t s' : Cea608State) (q : Pair) (qs ps : List Pair) → step s q ≡ (answer none, s') → Agrees s' t qs ps → Agrees s t (q ∷ qs) ps
+silent_in_front : (s t s' : Cea608State) (q : Pair) (qs ps : List Pair) → step s q ≡ (answer None, s') → Agrees s' t qs ps → Agrees s t (q ∷ qs) ps
 silent_in_front s t s' q qs ps one a = record { same_events = rw one a.same_events; ends_same = rw one a.ends_same }
 
 corrupted_in_front : (s t : Cea608State) (q : Pair) (qs ps : List Pair) → is_odd_pair q ≡ false → Agrees s t qs ps → Agrees s t (q ∷ qs) ps
@@ -81,10 +81,10 @@ module _ (p : Pair) (ps : List Pair) (odd : is_odd_pair p ≡ true) (go : Contin
   parity = both_true (is_odd p.0) (is_odd p.1) odd
 
   -- text arrives as it was sent, and is read by both; the receiver holds it then
-  holds_text : (h : Option Pair) (t : Bool) → was_corrupted h p ≡ t → is_command_pair p ≡ false → Ready (cond t h none) (last.Was p)
+  holds_text : (h : Option Pair) (t : Bool) → was_corrupted h p ≡ t → is_command_pair p ≡ false → Ready (cond t h None) (last.Was p)
   holds_text h false w is = is
-  holds_text none true w is = absurd (true≢false (sym w))
-  holds_text (some q) true w is = ap last.Was (sym (same_is_equal q p w))
+  holds_text None true w is = absurd (true≢false (sym w))
+  holds_text (Some q) true w is = ap last.Was (sym (same_is_equal q p w))
 
   text_heard : (h : Option Pair) (qs : List Pair) (s t : Cea608State) → is_command_pair p ≡ false → OneByOne h (p ∷ doubled ps) qs → Same s t → Agrees s t qs (p ∷ ps)
   text_heard h qs s t is (one.is_corrupted c w even rest) same = absurd (true≢false (sym c ∙ is))
@@ -114,37 +114,37 @@ module _ (p : Pair) (ps : List Pair) (odd : is_odd_pair p ≡ true) (go : Contin
       (command_once t p heard_code (is_a_command is)) a
 
   -- after a first copy that acted: its repeat is skipped, or corrupted
-  second_after_acting : (s t : Cea608State) (qs : List Pair) → is_command_pair p ≡ true → Same s t → s.last_data ≡ last.Was p → OneByOne none (p ∷ doubled ps) qs → Agrees s t qs ps
+  second_after_acting : (s t : Cea608State) (qs : List Pair) → is_command_pair p ≡ true → Same s t → s.last_data ≡ last.Was p → OneByOne None (p ∷ doubled ps) qs → Agrees s t qs ps
   second_after_acting s t qs is same holds (one.arrives {qs = qs'} rest) =
       silent_in_front s t (forgotten s) p qs' ps
       (repeat_is_skipped s p heard_code (is_a_command is) (ap (is_last p) holds ∙ last_is_last p))
-      (go none qs' (forgotten s) t rest refl (record { channel = same.channel; field = same.field }))
+      (go None qs' (forgotten s) t rest refl (record { channel = same.channel; field = same.field }))
   second_after_acting s t qs is same holds (one.is_corrupted {q = q} {qs = qs'} c w even rest) =
-      corrupted_in_front s t q qs' ps even (go (some p) qs' s t rest holds same)
+      corrupted_in_front s t q qs' ps even (go (Some p) qs' s t rest holds same)
 
   -- after a first copy that was corrupted or skipped: the second arrives, and acts
   second_acts : (h : Option Pair) (s t : Cea608State) (qs : List Pair) → is_command_pair p ≡ true → Same s t → was_corrupted h p ≡ true → is_last p s.last_data ≡ false → OneByOne h (p ∷ doubled ps) qs → Agrees s t qs (p ∷ ps)
   second_acts h s t qs is same corrupted other (one.is_corrupted c w even rest) = absurd (true≢false (sym corrupted ∙ w))
-  second_acts none s t qs is same corrupted other (one.arrives rest) = absurd (true≢false (sym corrupted))
-  second_acts (some q) s t qs is same corrupted other (one.arrives {qs = qs'} rest) =
-      let on = subst (λ (b : Bool). OneByOne (cond b (some q) none) (doubled ps) qs') corrupted rest in
+  second_acts None s t qs is same corrupted other (one.arrives rest) = absurd (true≢false (sym corrupted))
+  second_acts (Some q) s t qs is same corrupted other (one.arrives {qs = qs'} rest) =
+      let on = subst (λ (b : Bool). OneByOne (cond b (Some q) None) (doubled ps) qs') corrupted rest in
       acts_heard s t qs' is other
-      (go (some q) qs' _ _ on (ap last.Was (sym (same_is_equal q p corrupted))) (acted_same s t same))
+      (go (Some q) qs' _ _ on (ap last.Was (sym (same_is_equal q p corrupted))) (acted_same s t same))
 
   -- the two copies of a command
   command_heard : (h : Option Pair) (qs : List Pair) (s t : Cea608State) (corrupted : Bool) → was_corrupted h p ≡ corrupted → is_command_pair p ≡ true → OneByOne h (p ∷ p ∷ doubled ps) qs → Ready h s.last_data → Same s t → Agrees s t qs (p ∷ ps)
   command_heard h qs s t false w is (one.arrives {qs = qs'} rest) ready same =
-      let first = subst (λ (b : Bool). OneByOne (cond b h none) (p ∷ doubled ps) qs') w rest in
+      let first = subst (λ (b : Bool). OneByOne (cond b h None) (p ∷ doubled ps) qs') w rest in
       let other = repeat_is_told h s.last_data p heard_code (is_a_command is) ready ∙ w in
       acts_heard s t qs' is other (second_after_acting _ _ qs' is (acted_same s t same) refl first)
   command_heard h qs s t true w is (one.arrives {qs = qs'} rest) ready same =
-      let on = subst (λ (b : Bool). OneByOne (cond b h none) (p ∷ doubled ps) qs') w rest in
+      let on = subst (λ (b : Bool). OneByOne (cond b h None) (p ∷ doubled ps) qs') w rest in
       let again = repeat_is_told h s.last_data p heard_code (is_a_command is) ready ∙ w in
       silent_in_front s t (forgotten s) p qs' (p ∷ ps) (repeat_is_skipped s p heard_code (is_a_command is) again)
       (second_acts h (forgotten s) t qs' is (record { channel = same.channel; field = same.field }) w refl on)
   command_heard h qs s t corrupted w is (one.is_corrupted {q = q} {qs = qs'} c fine even rest) ready same =
       let other = repeat_is_told h s.last_data p heard_code (is_a_command is) ready ∙ fine in
-      corrupted_in_front s t q qs' (p ∷ ps) even (second_acts (some p) s t qs' is same (same_itself p) other rest)
+      corrupted_in_front s t q qs' (p ∷ ps) even (second_acts (Some p) s t qs' is same (same_itself p) other rest)
 
   pair_heard : (t : Bool) → is_command_pair p ≡ t → Continues (p ∷ ps)
   pair_heard true is h qs s t sent ready same =

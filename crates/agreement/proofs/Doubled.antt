@@ -86,16 +86,16 @@ doubled_by_parts (p ∷ ps) qs =
 
 -- in any run of calls
 pub sent_is_doubled : (calls : List Call) (s : Sender) → Good s → no_reset calls ≡ true → sent_by calls s ++ still_owed (sender_after calls s).repeats ≡ still_owed s.repeats ++ doubled (queue_pairs calls s)
-sent_is_doubled [] s g none = sym (append-nil (still_owed s.repeats))
-sent_is_doubled (c ∷ calls) s g none =
+sent_is_doubled [] s g None = sym (append-nil (still_owed s.repeats))
+sent_is_doubled (c ∷ calls) s g None =
     let next = (on_sender c s).1 in
     let before = still_owed s.repeats in
     let here = in_sends queue_pair (sends_by (on_sender c s).0) s in
     let later = queue_pairs calls next in
     append_assoc (sent_in c s) (sent_by calls next) (still_owed (sender_after calls next).repeats)
-    ∙ ap (λ (l : List Pair). sent_in c s ++ l) (sent_is_doubled calls next (call_stays_good c s g) (both_right (not (is_reset c)) (no_reset calls) none))
+    ∙ ap (λ (l : List Pair). sent_in c s ++ l) (sent_is_doubled calls next (call_stays_good c s g) (both_right (not (is_reset c)) (no_reset calls) None))
     ∙ sym (append_assoc (sent_in c s) (still_owed next.repeats) (doubled later))
-    ∙ ap (λ (l : List Pair). l ++ doubled later) (call_is_doubled c s g (both_left (not (is_reset c)) (no_reset calls) none))
+    ∙ ap (λ (l : List Pair). l ++ doubled later) (call_is_doubled c s g (both_left (not (is_reset c)) (no_reset calls) None))
     ∙ append_assoc before (doubled here) (doubled later)
     ∙ ap (λ (l : List Pair). before ++ l) (sym (doubled_by_parts here later))
 

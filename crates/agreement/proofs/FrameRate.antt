@@ -5,7 +5,8 @@
 use mathlib.Core.Bool.{Bool, true, false, cond, not, ◌&&◌, ◌||◌, true≢false}
 use mathlib.Core.List.{List, [], ◌∷◌}
 use mathlib.Core.Logic.{◌⊎◌, inl, inr, ⊎_elim}
-use mathlib.Core.Option.{Option, none, some, some-injective}
+use Rattle.std.specs.Prelude.{Option, None, Some}
+use Rattle.std.proofs.lemmas.Option.{same_Some}
 use mathlib.Core.Path.{◌≡◌, refl, ap, subst, sym, ◌∙◌}
 use Prim.Native.Nat.{ℕ}
 use native.Mathlib.Omega.{arith}
@@ -114,7 +115,7 @@ module _ (s : Cea608State) where
   no_repeat_alike [] h = record { same_answers = refl; same_channel = refl; same_field = refl }
   no_repeat_alike (p ∷ ps) h = first (is_odd_pair p) refl h (no_repeat_alike ps)
     where
-      first : (t : Bool) → is_odd_pair p ≡ t → repeat_is_not_next s.last_data (cond t (some p) (next_read ps)) ≡ true → (repeat_is_not_next s.last_data (next_read ps) ≡ true → ReadAlike s (after_padding s) ps) → ReadAlike s (after_padding s) (p ∷ ps)
+      first : (t : Bool) → is_odd_pair p ≡ t → repeat_is_not_next s.last_data (cond t (Some p) (next_read ps)) ≡ true → (repeat_is_not_next s.last_data (next_read ps) ≡ true → ReadAlike s (after_padding s) ps) → ReadAlike s (after_padding s) (p ∷ ps)
       first true odd is go =
           equal_from_here s (after_padding s) p ps
           (others_alike p s.last_data (last.Was padding) s.last_channel s.last_received_field odd
@@ -137,9 +138,9 @@ module _ (p : Pair) (odd : is_odd_pair p ≡ true) (is : is_command_pair p ≡ t
   record Silently (l : LastPair) : Type 0 where
     left : LastPair
     near : Near left
-    steps : step (state l ch f) p ≡ (answer none, state left ch f)
+    steps : step (state l ch f) p ≡ (answer None, state left ch f)
 
-  module _ (silent : event_of (command_in p) ≡ none) (ch_set : channel.Known (command_in p).channel ≡ ch) (f_set : field_after (command_in p).field f ≡ f) where
+  module _ (silent : event_of (command_in p) ≡ None) (ch_set : channel.Known (command_in p).channel ≡ ch) (f_set : field_after (command_in p).field f ≡ f) where
     silently : (l : LastPair) → Near l → Silently l
     silently l (inl e) = record {
       left = last.Absent;
@@ -172,14 +173,14 @@ module _ (p : Pair) (odd : is_odd_pair p ≡ true) (is : is_command_pair p ≡ t
             let one = silently l nl in
             let two = silently m nm in
             rw (← same_is_equal p q k)
-            (alike_from_here (state l ch f) (state m ch f) p qs (state one.left ch f) (state two.left ch f) (answer none)
+            (alike_from_here (state l ch f) (state m ch f) p qs (state one.left ch f) (state two.left ch f) (answer None)
             one.steps two.steps (go one.left two.left one.near two.near))
 
 -- where none of (a), (b) and (c) holds, the awaited repeat is next
 record RepeatNext (l : LastPair) (next : Option Pair) : Type 0 where
   awaited : Pair
   is_last_lem : l ≡ last.Was awaited
-  is_next : next ≡ some awaited
+  is_next : next ≡ Some awaited
   command : is_command_pair awaited ≡ true
 
 none_next : (w : Bool) → (not w || true || false) ≡ false → ⊥
@@ -193,22 +194,22 @@ both_so false r e = absurd (true≢false e)
 
 repeat_next : (l : LastPair) (next : Option Pair) → repeat_is_not_next l next ≡ false → RepeatNext l next
 repeat_next last.Absent next e = absurd (true≢false e)
-repeat_next (last.Was p) none e = absurd (none_next (is_command_pair p) e)
-repeat_next (last.Was p) (some q) e =
+repeat_next (last.Was p) None e = absurd (none_next (is_command_pair p) e)
+repeat_next (last.Was p) (Some q) e =
     let so = both_so (is_command_pair p) (same_pair p q) e in
-    record { awaited = p; is_last_lem = refl; is_next = ap {B = Option Pair} some (sym (same_is_equal p q so.1)); command = so.0 }
+    record { awaited = p; is_last_lem = refl; is_next = ap {B = Option Pair} Some (sym (same_is_equal p q so.1)); command = so.0 }
 
-next_is_odd : (rest : List Pair) (p : Pair) → next_read rest ≡ some p → is_odd_pair p ≡ true
+next_is_odd : (rest : List Pair) (p : Pair) → next_read rest ≡ Some p → is_odd_pair p ≡ true
 next_is_odd [] p e = absurd (let z : ◌≡◌ {A = ℕ} 0 1 = cc in omega arith)
 next_is_odd (q ∷ qs) p e = first (is_odd_pair q) refl e (next_is_odd qs p)
   where
-    first : (t : Bool) → is_odd_pair q ≡ t → cond t (some q) (next_read qs) ≡ some p → (next_read qs ≡ some p → is_odd_pair p ≡ true) → is_odd_pair p ≡ true
-    first true odd is go = ap is_odd_pair (sym (some-injective q p is)) ∙ odd
+    first : (t : Bool) → is_odd_pair q ≡ t → cond t (Some q) (next_read qs) ≡ Some p → (next_read qs ≡ Some p → is_odd_pair p ≡ true) → is_odd_pair p ≡ true
+    first true odd is go = ap is_odd_pair (sym (same_Some q p is)) ∙ odd
     first false even is go = go is
 
-no_event : (o : Option Cea608) → is_none o ≡ true → o ≡ none
-no_event none e = refl
-no_event (some x) e = absurd (true≢false (sym e))
+no_event : (o : Option Cea608) → is_none o ≡ true → o ≡ None
+no_event None e = refl
+no_event (Some x) e = absurd (true≢false (sym e))
 
 -- one direction, from a state of any contents
 module _ (s : Cea608State) (rest : List Pair) where
@@ -242,7 +243,7 @@ tails_equal : {A : Type 0} {x y : A} {xs ys : List A} → (x ∷ xs) ≡ (y ∷ 
 tails_equal e = cc
 
 module _ (s : Cea608State) (p : Pair) (was : s.last_data ≡ last.Was p) (is : is_command_pair p ≡ true) where
-  silent_if_unnoticed : is_odd_pair p ≡ true → (step s p).0 ≡ (step (after_padding s) p).0 → event_of (command_in p) ≡ none
+  silent_if_unnoticed : is_odd_pair p ≡ true → (step s p).0 ≡ (step (after_padding s) p).0 → event_of (command_in p) ≡ None
   silent_if_unnoticed odd e =
       let k = read_so p odd is in
       let skipped = repeat_is_skipped s p (command_in p) k (ap (is_last p) was ∙ last_is_last p) in
@@ -251,15 +252,15 @@ module _ (s : Cea608State) (p : Pair) (was : s.last_data ≡ last.Was p) (is : i
       (same
       (sym (ap (λ (x : Stepped). x.0) skipped) ∙ e ∙ ap (λ (x : Stepped). x.0) acted))
 
-  silent_if_unchanged : (rest : List Pair) → next_read rest ≡ some p → answers s rest ≡ answers (after_padding s) rest → event_of (command_in p) ≡ none
+  silent_if_unchanged : (rest : List Pair) → next_read rest ≡ Some p → answers s rest ≡ answers (after_padding s) rest → event_of (command_in p) ≡ None
   silent_if_unchanged [] next e = absurd (let z : ◌≡◌ {A = ℕ} 0 1 = cc in omega arith)
   silent_if_unchanged (q ∷ qs) next e = first (is_odd_pair q) refl next (silent_if_unchanged qs)
     where
-      first : (t : Bool) → is_odd_pair q ≡ t → cond t (some q) (next_read qs) ≡ some p → (next_read qs ≡ some p → answers s qs ≡ answers (after_padding s) qs → event_of (command_in p) ≡ none) → event_of (command_in p) ≡ none
+      first : (t : Bool) → is_odd_pair q ≡ t → cond t (Some q) (next_read qs) ≡ Some p → (next_read qs ≡ Some p → answers s qs ≡ answers (after_padding s) qs → event_of (command_in p) ≡ None) → event_of (command_in p) ≡ None
       first false even is_next go =
           go is_next (tails_equal (rw (even_is_refused_1 s q even, even_is_refused_1 (after_padding s) q even) at e))
       first true odd is_next go =
-          let q_is_p = some-injective q p is_next in
+          let q_is_p = same_Some q p is_next in
           silent_if_unnoticed (subst (λ (x : Pair). is_odd_pair x ≡ true) q_is_p odd)
           (subst (λ (x : Pair). (step s x).0 ≡ (step (after_padding s) x).0) q_is_p (heads_equal e))
 

@@ -4,7 +4,7 @@
 -- Assumes nothing.
 use mathlib.Core.Bool.{true, false}
 use mathlib.Core.List.{List, [], ◌∷◌, map}
-use mathlib.Core.Option.{none}
+use Rattle.std.specs.Prelude.{None}
 use mathlib.Core.Path.{◌≡◌, refl, ap, ◌∙◌}
 use native.Mathlib.Omega.{arith}
 use lib.Count.{ones, ones_in}
@@ -75,7 +75,7 @@ abbrev hi_codes : List Code
 hi_codes = single 0x48 ∷ single 0x69 ∷ []
 
 -- the codes of each pair, and those that wait after it
-pub what_it_is_made_of : packed programme fresh_sender ≡ record { pair = roll_up2; codes = command RollUp2 ∷ []; left = queued (command CarriageReturn ∷ hi_codes) none } ∷ record { pair = carriage_return; codes = command CarriageReturn ∷ []; left = queued hi_codes none } ∷ record { pair = hi; codes = hi_codes; left = empty } ∷ []
+pub what_it_is_made_of : packed programme fresh_sender ≡ record { pair = roll_up2; codes = command RollUp2 ∷ []; left = queued (command CarriageReturn ∷ hi_codes) None } ∷ record { pair = carriage_return; codes = command CarriageReturn ∷ []; left = queued hi_codes None } ∷ record { pair = hi; codes = hi_codes; left = empty } ∷ []
 unfolding ones ones_in write_code in_domain queueable admit pair_of code_of pop push_ring pop_ring ring.well_formed well_formed push_sender send send_sender drain_sender idle_sender on_line control_bytes meaning
 what_it_is_made_of = refl
 

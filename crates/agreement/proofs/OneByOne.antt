@@ -3,7 +3,7 @@
 -- Assumes nothing.
 use mathlib.Core.Bool.{Bool, true, false, cond, not, true≢false}
 use mathlib.Core.List.{List, [], ◌∷◌, ◌++◌}
-use mathlib.Core.Option.{Option, none, some}
+use Rattle.std.specs.Prelude.{Option, None, Some}
 use mathlib.Core.Path.{◌≡◌, refl, ap, ap₂, sym, subst, ◌∙◌}
 use Prim.Native.Nat.{ℕ, zero, suc, ◌≤◌}
 use native.Mathlib.Omega.{arith}
@@ -43,8 +43,8 @@ not_counted p q places same = rw same refl
 
 -- once a copy of a stretch is corrupted, no other is
 abbrev Spared : Option Pair → List Pair → List Pair → Type 0
-Spared none sent arrived = Unit
-Spared (some p) sent arrived =
+Spared None sent arrived = Unit
+Spared (Some p) sent arrived =
     (n : ℕ) (more : List Pair) → sent ≡ replicate n p ++ more → how_many (take n (corrupted_places sent arrived)) ≡ 0
 
 module _ (p q : Pair) (ps qs : List Pair) where
@@ -53,16 +53,16 @@ module _ (p q : Pair) (ps qs : List Pair) where
   further all before n x more e = all (p ∷ before) n x more (ap (λ (l : List Pair). p ∷ l) e)
 
   -- the rest of the stretch, past a copy that arrived and past a corrupted one
-  spared_on : (h : Option Pair) (t : Bool) → was_corrupted h p ≡ t → same_pair p q ≡ true → Spared h (p ∷ ps) (q ∷ qs) → Spared (cond t h none) ps qs
-  spared_on none true w same spared = tt
-  spared_on none false w same spared = tt
-  spared_on (some x) false w same spared = tt
-  spared_on (some x) true w same spared =
+  spared_on : (h : Option Pair) (t : Bool) → was_corrupted h p ≡ t → same_pair p q ≡ true → Spared h (p ∷ ps) (q ∷ qs) → Spared (cond t h None) ps qs
+  spared_on None true w same spared = tt
+  spared_on None false w same spared = tt
+  spared_on (Some x) false w same spared = tt
+  spared_on (Some x) true w same spared =
       λ (n : ℕ) (more : List Pair) (e : ps ≡ replicate n x ++ more).
       let is : p ≡ x = sym (same_is_equal x p w) in
       sym (not_counted p q (take n (corrupted_places ps qs)) same) ∙ spared (suc n) more (ap₂ ◌∷◌ is e)
 
-  spared_from : is_odd_pair p ≡ true → is_odd_pair q ≡ false → OneEachStretch (p ∷ ps) (q ∷ qs) → Spared (some p) ps qs
+  spared_from : is_odd_pair p ≡ true → is_odd_pair q ≡ false → OneEachStretch (p ∷ ps) (q ∷ qs) → Spared (Some p) ps qs
   spared_from odd even all n more e =
       let told = all [] (suc n) p more (ap (λ (l : List Pair). p ∷ l) e) in
       omega (arith, told, counted p q (take n (corrupted_places ps qs)) (corrupted_is_another p q odd even))
@@ -70,8 +70,8 @@ module _ (p q : Pair) (ps qs : List Pair) where
   -- no second copy of a stretch is corrupted
   not_twice : (h : Option Pair) (t : Bool) → was_corrupted h p ≡ t → is_odd_pair p ≡ true → is_odd_pair q ≡ false → Spared h (p ∷ ps) (q ∷ qs) → t ≡ false
   not_twice h false w odd even spared = refl
-  not_twice none true w odd even spared = absurd (true≢false (sym w))
-  not_twice (some x) true w odd even spared =
+  not_twice None true w odd even spared = absurd (true≢false (sym w))
+  not_twice (Some x) true w odd even spared =
       let is : p ≡ x = sym (same_is_equal x p w) in
       let told = spared 1 ps (ap (λ (y : Pair). y ∷ ps) is) in
       absurd (omega (arith, told, counted p q [] (corrupted_is_another p q odd even)))
@@ -82,11 +82,11 @@ pair_by_pair h sent arrived odd (line.arrives {p = p} {ps = ps} {qs = qs} rest) 
     one.arrives (pair_by_pair (goes_on h p) ps qs odd.1 rest (further p p ps qs all) (spared_on p p ps qs h (was_corrupted h p) refl (same_itself p) spared))
 pair_by_pair h sent arrived odd (line.is_corrupted {p = p} {q = q} {ps = ps} {qs = qs} command even rest) all spared =
     one.is_corrupted command (not_twice p q ps qs h (was_corrupted h p) refl odd.0 even spared) even
-    (pair_by_pair (some p) ps qs odd.1 rest (further p q ps qs all) (spared_from p q ps qs odd.0 even all))
+    (pair_by_pair (Some p) ps qs odd.1 rest (further p q ps qs all) (spared_from p q ps qs odd.0 even all))
 
 -- every line that the letter allows, pair by pair
-pub line_one_by_one : (sent arrived : List Pair) → AllOdd sent → Line sent arrived → OneByOne none sent arrived
-line_one_by_one sent arrived odd l = pair_by_pair none sent arrived odd l.pairs l.stretches tt
+pub line_one_by_one : (sent arrived : List Pair) → AllOdd sent → Line sent arrived → OneByOne None sent arrived
+line_one_by_one sent arrived odd l = pair_by_pair None sent arrived odd l.pairs l.stretches tt
 
 -- and back: a line that is allowed pair by pair is one that the letter allows
 carried : (h : Option Pair) (sent arrived : List Pair) → OneByOne h sent arrived → Carried sent arrived
@@ -127,12 +127,12 @@ front (suc n) h sent arrived p rest odd (one.arrives {p = x} {ps = ps} {qs = qs}
   where
     still : (t : Bool) → was_corrupted h p ≡ t → x ≡ p → AtFront (was_corrupted (goes_on h x) p) (how_many (take n (corrupted_places ps qs))) → AtFront t (how_many (take n (corrupted_places ps qs)))
     still true w is later =
-        let on = ap (λ (t : Bool). was_corrupted (cond t h none) p) (ap (was_corrupted h) is ∙ w) ∙ w in
+        let on = ap (λ (t : Bool). was_corrupted (cond t h None) p) (ap (was_corrupted h) is ∙ w) ∙ w in
         subst (λ (t : Bool). AtFront t (how_many (take n (corrupted_places ps qs)))) on later
     still false w is later = weaker (was_corrupted (goes_on h x) p) _ later
 front (suc n) h sent arrived p rest odd (one.is_corrupted {p = x} {q = q} {ps = ps} {qs = qs} command w even passed) e =
     let is = in_front x p ps (replicate n p ++ rest) e in
-    let later = front n (some x) ps qs p rest odd.1 passed (same_tail x p ps (replicate n p ++ rest) e) in
+    let later = front n (Some x) ps qs p rest odd.1 passed (same_tail x p ps (replicate n p ++ rest) e) in
     let none_later = subst (λ (t : Bool). AtFront t (how_many (take n (corrupted_places ps qs)))) (ap (same_pair x) (sym is) ∙ same_itself x) later in
     let here = counted x q (take n (corrupted_places ps qs)) (corrupted_is_another x q odd.0 even) in
     subst (λ (t : Bool). AtFront t (how_many (take (suc n) (corrupted_places (x ∷ ps) (q ∷ qs))))) (sym (ap (was_corrupted h) (sym is) ∙ w))
@@ -146,10 +146,10 @@ one_each_stretch (x ∷ before) h sent arrived odd (one.arrives {p = y} {ps = ps
 one_each_stretch (x ∷ before) h sent arrived odd (one.is_corrupted {p = y} {ps = ps} {qs = qs} command w even passed) n p rest e =
     one_each_stretch before _ ps qs odd.1 passed n p rest (same_tail y x ps (before ++ (replicate n p ++ rest)) e)
 
-pub one_by_one_is_a_line : (sent arrived : List Pair) → AllOdd sent → OneByOne none sent arrived → Line sent arrived
+pub one_by_one_is_a_line : (sent arrived : List Pair) → AllOdd sent → OneByOne None sent arrived → Line sent arrived
 one_by_one_is_a_line sent arrived odd passed = record {
-  pairs = carried none sent arrived passed;
-  stretches = λ (before : List Pair) (n : ℕ) (p : Pair) (rest : List Pair). one_each_stretch before none sent arrived odd passed n p rest;
+  pairs = carried None sent arrived passed;
+  stretches = λ (before : List Pair) (n : ℕ) (p : Pair) (rest : List Pair). one_each_stretch before None sent arrived odd passed n p rest;
 }
 
 -- a line that corrupts nothing is one
@@ -158,4 +158,4 @@ clean h [] = one.ends
 clean h (p ∷ ps) = one.arrives (clean (goes_on h p) ps)
 
 pub clean_line : (sent : List Pair) → AllOdd sent → Line sent sent
-clean_line sent odd = one_by_one_is_a_line sent sent odd (clean none sent)
+clean_line sent odd = one_by_one_is_a_line sent sent odd (clean None sent)

@@ -1,6 +1,6 @@
 -- What padding does to a receiver: it gives no event, and leaves channel and field as they are.
 -- Assumes nothing.
-use mathlib.Core.Option.{none}
+use Rattle.std.specs.Prelude.{None}
 use mathlib.Core.Path.{◌≡◌, refl, ap, ◌∙◌}
 use Rattle.agreement.specs.Pairs.{padding}
 use Rattle.code.proofs.WrittenLemmas.{padding_read}
@@ -15,7 +15,7 @@ use Rattle.receiver.specs.Heard.{text_event}
 use Rattle.code.specs.Code.{char_of}
 use Rattle.receiver.specs.declared.state.LastPair.TheVariants as last
 
-no_text : (ch : LastChannel) → text_for ch code.Nul code.Nul ≡ none
+no_text : (ch : LastChannel) → text_for ch code.Nul code.Nul ≡ None
 unfolding text_event char_of
 no_text channel.Absent = refl
 no_text (channel.Known ch) = refl
@@ -23,9 +23,9 @@ no_text (channel.Known ch) = refl
 abbrev pub after_padding : Cea608State → Cea608State
 after_padding s = state (last.Was padding) s.last_channel s.last_received_field
 
-pub padding_step : (s : Cea608State) → step s padding ≡ (answer none, after_padding s)
+pub padding_step : (s : Cea608State) → step s padding ≡ (answer None, after_padding s)
 unfolding step
 padding_step s = ap (after_reading s padding) padding_read ∙ rw (no_text s.last_channel)
 
-pub padding_once : (s : Cea608State) → once s padding ≡ (answer none, after_padding s)
+pub padding_once : (s : Cea608State) → once s padding ≡ (answer None, after_padding s)
 padding_once s = padding_step (forgotten s)

@@ -3,7 +3,7 @@
 -- Assumes nothing.
 use mathlib.Core.Bool.{Bool, true, false, cond}
 use mathlib.Core.List.{List, [], ◌∷◌}
-use mathlib.Core.Option.{none}
+use Rattle.std.specs.Prelude.{None}
 use mathlib.Core.Path.{◌≡◌, refl, ap, ◌∙◌}
 use Rattle.code.specs.Outcome.{Outcome, answer, refused}
 use Rattle.code.specs.Read.{read_pair}
@@ -28,7 +28,7 @@ module _ (s : Cea608State) (p : Pair) where
   )
 
   -- what was not refused leaves a settled state, whatever the state was before
-  settled_command : (t : Bool) (c : ControlCode) (y : Code) → read_pair p.0 p.1 ≡ answer (code.Control c, y) → Settled (cond t (answer none, forgotten s) (acts s p c)).1
+  settled_command : (t : Bool) (c : ControlCode) (y : Code) → read_pair p.0 p.1 ≡ answer (code.Control c, y) → Settled (cond t (answer None, forgotten s) (acts s p c)).1
   settled_command true c y e = tt
   settled_command false c y e = set_by (acts s p c).1 (answer (code.Control c, y)) e refl (field_again c.field s.last_received_field)
 

@@ -5,7 +5,8 @@
 -- Assumes nothing.
 use mathlib.Core.Bool.{Bool, true, false, cond, ◌||◌, not, true≢false}
 use mathlib.Core.List.{List, [], ◌∷◌, ◌++◌, append_assoc, append-nil}
-use mathlib.Core.Option.{Option, none, some, none-ne-some}
+use Rattle.std.specs.Prelude.{Option, None, Some}
+use Rattle.std.proofs.lemmas.Option.{none-some}
 use mathlib.Core.Path.{◌≡◌, refl, ap, ap₂, sym, subst, ◌∙◌}
 use Prim.Native.Nat.{ℕ, ◌+◌}
 use native.Mathlib.Omega.{arith}
@@ -72,8 +73,8 @@ abbrev shown_by : Outcome (Option Cea608) → List Cea608
 shown_by o = shown (events (o ∷ []))
 
 shown_first : (o : Outcome (Option Cea608)) (os : List (Outcome (Option Cea608))) → shown (events (o ∷ os)) ≡ shown_by o ++ shown (events os)
-shown_first (answer none) os = refl
-shown_first (answer (some e)) os = ap (λ (l : List Cea608). l ++ shown (events os)) (sym (append-nil (by_character e)))
+shown_first (answer None) os = refl
+shown_first (answer (Some e)) os = ap (λ (l : List Cea608). l ++ shown (events os)) (sym (append-nil (by_character e)))
 shown_first (refused n) os = refl
 
 -- two streams that show the same, read once from states of one channel and field, and end in such states
@@ -154,14 +155,14 @@ byte_is_text x a written whole = record {
 
 -- what is still to be shown: of a held code the space is out
 abbrev to_come : Option Code → List Code → List Pair
-to_come none codes = each_alone codes
-to_come (some c) [] = []
-to_come (some c) (x ∷ codes) = pair_of x ∷ each_alone codes
+to_come None codes = each_alone codes
+to_come (Some c) [] = []
+to_come (Some c) (x ∷ codes) = pair_of x ∷ each_alone codes
 
 -- a held code is the next
 abbrev HeldFirst : Option Code → List Code → Type 0
-HeldFirst none codes = Unit
-HeldFirst (some c) codes = (rest : List Code) × (codes ≡ c ∷ rest)
+HeldFirst None codes = Unit
+HeldFirst (Some c) codes = (rest : List Code) × (codes ≡ c ∷ rest)
 
 written_as : (x : Code) (p : Pair) (n : ℕ) → write_code x ≡ answer (p, n) → pair_of x ≡ p
 unfolding pair_of
@@ -176,17 +177,17 @@ neither true u e = absurd (true≢false e)
 neither false u e = (refl, e)
 
 first_bare : (before : Option Code) (x : Code) (taken codes : List Code) → AfterHeld before (x ∷ taken) → to_come before (x ∷ codes) ≡ pair_of x ∷ each_alone codes
-first_bare none x taken codes after = bare x codes (neither (needs_backspace x) (has_backspace taken) after).0
-first_bare (some c) x taken codes after = refl
+first_bare None x taken codes after = bare x codes (neither (needs_backspace x) (has_backspace taken) after).0
+first_bare (Some c) x taken codes after = refl
 
 first_as : (before : Option Code) (x : Code) (p : Pair) (n : ℕ) (taken codes : List Code) → write_code x ≡ answer (p, n) → AfterHeld before (x ∷ taken) → to_come before (x ∷ codes) ≡ p ∷ each_alone codes
 first_as before x p n taken codes written after =
     first_bare before x taken codes after ∙ ap (λ (q : Pair). q ∷ each_alone codes) (written_as x p n written)
 
 second_bare : (before : Option Code) (x y : Code) → AfterHeld before (x ∷ y ∷ []) → needs_backspace y ≡ false
-second_bare none x y after =
+second_bare None x y after =
     (neither (needs_backspace y) false (neither (needs_backspace x) (needs_backspace y || false) after).1).0
-second_bare (some c) x y after = absurd (omega (arith, ap length after))
+second_bare (Some c) x y after = absurd (omega (arith, ap length after))
 
 whole_by : (x : Code) (codes : List Code) → no_half_command (x ∷ codes) ≡ true → is_half_command x ≡ false
 whole_by x codes whole = not-true (is_half_command x) (both_left (not (is_half_command x)) (no_half_command codes) whole)
@@ -196,27 +197,27 @@ whole_after x codes whole = both_right (not (is_half_command x)) (no_half_comman
 
 module _ (ps : List Pair) (codes : List Code) where
   -- the space before a command that is now held
-  space_out : (c : Code) → needs_backspace c ≡ true → HeldFirst (some c) codes → each_alone codes ≡ space_alone ∷ to_come (some c) codes
+  space_out : (c : Code) → needs_backspace c ≡ true → HeldFirst (Some c) codes → each_alone codes ≡ space_alone ∷ to_come (Some c) codes
   space_out c needs (rest, is) = rw is (rw needs refl)
 
-  none_out : (c : Code) → needs_backspace c ≡ false → HeldFirst (some c) codes → each_alone codes ≡ to_come (some c) codes
+  none_out : (c : Code) → needs_backspace c ≡ false → HeldFirst (Some c) codes → each_alone codes ≡ to_come (Some c) codes
   none_out c needs (rest, is) = rw is (rw needs refl)
 
-  single_shown : (c : Code) (a : ℕ) (t : Bool) → needs_backspace c ≡ t → TextByte a → HeldFirst (some c) codes → Alike ps (to_come (some c) codes) → Alike (pair a (cond t 0x20 0x80) ∷ ps) (pair a 0x80 ∷ each_alone codes)
+  single_shown : (c : Code) (a : ℕ) (t : Bool) → needs_backspace c ≡ t → TextByte a → HeldFirst (Some c) codes → Alike ps (to_come (Some c) codes) → Alike (pair a (cond t 0x20 0x80) ∷ ps) (pair a 0x80 ∷ each_alone codes)
   single_shown c a true needs text next go =
       subst (λ (l : List Pair). Alike (pair a 0x20 ∷ ps) (pair a 0x80 ∷ l)) (sym (space_out c needs next))
-      (two_texts a 0x20 ps (to_come (some c) codes) text space_is_text go)
+      (two_texts a 0x20 ps (to_come (Some c) codes) text space_is_text go)
   single_shown c a false needs text next go =
       subst (λ (l : List Pair). Alike (pair a 0x80 ∷ ps) (pair a 0x80 ∷ l)) (sym (none_out c needs next))
-      (same_first (pair a 0x80) ps (to_come (some c) codes) go)
+      (same_first (pair a 0x80) ps (to_come (Some c) codes) go)
 
   -- a pair shows what its codes show, and the space before the command that is then held
   by_made : (before : Option Code) {p : Pair} {taken : List Code} {left : Queued} → MadeOf p taken left → AfterHeld before taken → no_half_command (taken ++ codes) ≡ true → HeldFirst left.held codes → Alike ps (to_come left.held codes) → Alike (p ∷ ps) (to_come before (taken ++ codes))
-  by_made none nothing_to_send after whole next go = padding_first ps (each_alone codes) go
-  by_made (some d) nothing_to_send after whole next go = absurd (omega (arith, ap length after))
-  by_made none (space_before c rest needs) after whole next go =
-      subst (Alike (space_alone ∷ ps)) (sym (space_out c needs next)) (same_first space_alone ps (to_come (some c) codes) go)
-  by_made (some d) (space_before c rest needs) after whole next go = absurd (omega (arith, ap length after))
+  by_made None nothing_to_send after whole next go = padding_first ps (each_alone codes) go
+  by_made (Some d) nothing_to_send after whole next go = absurd (omega (arith, ap length after))
+  by_made None (space_before c rest needs) after whole next go =
+      subst (Alike (space_alone ∷ ps)) (sym (space_out c needs next)) (same_first space_alone ps (to_come (Some c) codes) go)
+  by_made (Some d) (space_before c rest needs) after whole next go = absurd (omega (arith, ap length after))
   by_made before (last_single x a written) after whole next go =
       subst (Alike (pair a 0x80 ∷ ps)) (sym (first_as before x (pair a 0x80) 1 [] codes written after))
       (same_first (pair a 0x80) ps (each_alone codes) go)
@@ -227,7 +228,7 @@ module _ (ps : List Pair) (codes : List Code) where
       subst (Alike (pair a b ∷ ps))
       (sym
       (first_as before x (pair a 0x80) 1 (y ∷ []) (y ∷ codes) written after
-      ∙ ap (λ (l : List Pair). pair a 0x80 ∷ l) (first_as none y (pair b 0x80) 1 [] codes other (rw (second_bare before x y after) refl))))
+      ∙ ap (λ (l : List Pair). pair a 0x80 ∷ l) (first_as None y (pair b 0x80) 1 [] codes other (rw (second_bare before x y after) refl))))
       (two_texts a b ps (each_alone codes) (byte_is_text x a written (whole_by x (y ∷ codes) whole))
       (byte_is_text y b other (whole_by y codes (whole_after x (y ∷ codes) whole)))
       go)
@@ -235,29 +236,29 @@ module _ (ps : List Pair) (codes : List Code) where
       subst (Alike (p ∷ ps)) (sym (first_as before c p 2 [] codes written after)) (same_first p ps (each_alone codes) go)
 
 -- so do all of them, where nothing is held at the end
-held_next : (h : Option Code) (ms : List Packed) → HeldNext h ms none → HeldFirst h (codes_in ms)
-held_next none ms held = tt
-held_next (some c) [] held = absurd (none-ne-some c (sym held))
-held_next (some c) (m ∷ ms) held = (codes_in ms, ap (λ (l : List Code). l ++ codes_in ms) held.0)
+held_next : (h : Option Code) (ms : List Packed) → HeldNext h ms None → HeldFirst h (codes_in ms)
+held_next None ms held = tt
+held_next (Some c) [] held = absurd (none-some c (sym held))
+held_next (Some c) (m ∷ ms) held = (codes_in ms, ap (λ (l : List Code). l ++ codes_in ms) held.0)
 
 whole_later : (taken codes : List Code) → no_half_command (taken ++ codes) ≡ true → no_half_command codes ≡ true
 whole_later [] codes whole = whole
 whole_later (x ∷ taken) codes whole = whole_later taken codes (whole_after x (taken ++ codes) whole)
 
-nothing_to_come : (before : Option Code) → before ≡ none → Alike [] (to_come before [])
-nothing_to_come none e s t same = (refl, same)
-nothing_to_come (some c) e s t same = (refl, same)
+nothing_to_come : (before : Option Code) → before ≡ None → Alike [] (to_come before [])
+nothing_to_come None e s t same = (refl, same)
+nothing_to_come (Some c) e s t same = (refl, same)
 
-packed_show_their_codes : (before : Option Code) (ms : List Packed) → All WellPacked ms → HeldNext before ms none → no_half_command (codes_in ms) ≡ true → Alike (pairs_in ms) (to_come before (codes_in ms))
+packed_show_their_codes : (before : Option Code) (ms : List Packed) → All WellPacked ms → HeldNext before ms None → no_half_command (codes_in ms) ≡ true → Alike (pairs_in ms) (to_come before (codes_in ms))
 packed_show_their_codes before [] all held whole = nothing_to_come before held
 packed_show_their_codes before (m ∷ ms) all held whole =
     by_made (pairs_in ms) (codes_in ms) before all.0.is_made_of held.0 whole (held_next m.left.held ms held.1)
     (packed_show_their_codes m.left.held ms all.1 held.1 (whole_later m.codes (codes_in ms) whole))
 
 -- once idle, nothing is inside
-nothing_held : (h : Option Code) (n : ℕ) → n + length (held_codes h) ≡ 0 → h ≡ none
-nothing_held none n e = refl
-nothing_held (some c) n e = absurd (omega (arith, e))
+nothing_held : (h : Option Code) (n : ℕ) → n + length (held_codes h) ≡ 0 → h ≡ None
+nothing_held None n e = refl
+nothing_held (Some c) n e = absurd (omega (arith, e))
 
 nothing_waits : (l : List Code) (n : ℕ) → length l + n ≡ 0 → l ≡ []
 nothing_waits [] n e = refl
@@ -282,10 +283,10 @@ queue_shows_its_codes calls run =
     let left = none_left calls run.ends_idle in
     let codes : codes_in ms ≡ accepted_in calls =
     sym (append-nil (codes_in ms)) ∙ ap (λ (l : List Code). codes_in ms ++ l) (sym (nothing_inside end left)) ∙ law.all_codes in
-    let held = subst (HeldNext none ms) (nothing_held end.held (length end.waiting) left) law.held_is_next in
+    let held = subst (HeldNext None ms) (nothing_held end.held (length end.waiting) left) law.held_is_next in
     let whole = ap no_half_command codes ∙ run.has_no_half_command in
     subst (λ (l : List Pair). Alike l (each_alone (accepted_in calls))) law.all_pairs
-    (subst (λ (l : List Code). Alike (pairs_in ms) (each_alone l)) codes (packed_show_their_codes none ms law.well_packed held whole))
+    (subst (λ (l : List Code). Alike (pairs_in ms) (each_alone l)) codes (packed_show_their_codes None ms law.well_packed held whole))
 
 -- and what arrives gives the events of the queue's pairs
 shows_by : (calls : List Call) (sent arrived : List Pair) → WholeRun calls → Agreement (queue_pairs calls fresh_sender) sent arrived → Shows arrived (accepted_in calls)

@@ -3,7 +3,7 @@
 -- `RepaddedLaw` at the end is for whole streams, any number of places at once. proofs/FrameRate.antt and
 -- proofs/Repadded.antt prove the two. The port's own words, over the receiver's step.
 use Rattle.std.specs.Prelude.{Bool, true, false, cond, not, ◌||◌, List, [], ◌∷◌, ◌↔◌, ◌≡◌}
-use Rattle.std.proofs.Math.Option.{Option, none, some}
+use Rattle.std.specs.Prelude.{Option, None, Some}
 use Rattle.code.specs.Outcome.{Outcome}
 use Rattle.code.specs.Parity.{stripped}
 use Rattle.code.specs.Read.{control_code_of, is_command_pair, is_odd_pair}
@@ -26,16 +26,16 @@ awaits (last.Was p) = is_command_pair p
 
 -- the next pair that is not refused, if one follows
 abbrev pub next_read : List Pair → Option Pair
-next_read [] = none
-next_read (p ∷ ps) = cond (is_odd_pair p) (some p) (next_read ps)
+next_read [] = None
+next_read (p ∷ ps) = cond (is_odd_pair p) (Some p) (next_read ps)
 
 abbrev pub is_none : {A : Type 0} → Option A → Bool
-is_none none = true
-is_none (some x) = false
+is_none None = true
+is_none (Some x) = false
 
 abbrev pub differs : LastPair → Option Pair → Bool
-differs l none = false
-differs l (some p) = not (is_last p l)
+differs l None = false
+differs l (Some p) = not (is_last p l)
 
 -- the command that a pair is read as
 abbrev pub command_in : Pair → ControlCode

@@ -1,7 +1,7 @@
 -- The line pair by pair, in the port's own words. One thing is remembered: the pair of which a copy was corrupted in
 -- the stretch so far, if any. `Line` says the same of whole stretches; proofs/OneByOne.antt proves each from the other.
 use Rattle.std.specs.Prelude.{Bool, true, false, cond, List, [], ◌∷◌, ◌≡◌}
-use Rattle.std.proofs.Math.Option.{Option, none, some}
+use Rattle.std.specs.Prelude.{Option, None, Some}
 use Rattle.code.specs.declared.pair.Pair.{Pair}
 use Rattle.code.specs.Pair.{same_pair}
 use Rattle.code.specs.Read.{is_command_pair, is_odd_pair}
@@ -14,14 +14,14 @@ abbrev pub AllOdd : List Pair → Type 0
 AllOdd ps = All IsOdd ps
 
 abbrev pub was_corrupted : Option Pair → Pair → Bool
-was_corrupted none p = false
-was_corrupted (some q) p = same_pair q p
+was_corrupted None p = false
+was_corrupted (Some q) p = same_pair q p
 
 -- the stretch goes on as long as its pair is sent
 abbrev pub goes_on : Option Pair → Pair → Option Pair
-goes_on h p = cond (was_corrupted h p) h none
+goes_on h p = cond (was_corrupted h p) h None
 
 pub data OneByOne : Option Pair → List Pair → List Pair → Type 0 where
   ends : {h : Option Pair} → OneByOne h [] []
   arrives : {h : Option Pair} {p : Pair} {ps qs : List Pair} → OneByOne (goes_on h p) ps qs → OneByOne h (p ∷ ps) (p ∷ qs)
-  is_corrupted : {h : Option Pair} {p q : Pair} {ps qs : List Pair} → is_command_pair p ≡ true → was_corrupted h p ≡ false → is_odd_pair q ≡ false → OneByOne (some p) ps qs → OneByOne h (p ∷ ps) (q ∷ qs)
+  is_corrupted : {h : Option Pair} {p q : Pair} {ps qs : List Pair} → is_command_pair p ≡ true → was_corrupted h p ≡ false → is_odd_pair q ≡ false → OneByOne (Some p) ps qs → OneByOne h (p ∷ ps) (q ∷ qs)

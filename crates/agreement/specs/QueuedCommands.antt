@@ -1,7 +1,7 @@
 -- What is queued as a command is sent as a command, twice: T-04, over whole runs. `QueuedCommandsLaw` at the end is the
 -- law; `queued_commands` in proofs/QueuedCommands.antt proves it.
 use Rattle.std.specs.Prelude.{true, cond, List, [], ◌∷◌, ◌++◌, ◌≡◌}
-use Rattle.std.proofs.Math.Option.{Option, none}
+use Rattle.std.specs.Prelude.{Option, None}
 use Rattle.code.specs.Outcome.{Outcome, answer, refused}
 use Rattle.code.specs.Read.{is_command_pair}
 use Rattle.code.specs.declared.code.Code.{Code}
@@ -72,7 +72,7 @@ pub record QueuedCommands (calls : List Call) : Type 0 where
   pub all_pairs : pairs_in (packed calls fresh_sender) ≡ queue_pairs calls fresh_sender
   pub all_codes : codes_in (packed calls fresh_sender) ++ inside (view (sender_after calls fresh_sender)).queue ≡ accepted_in calls
   pub well_packed : All WellPacked (packed calls fresh_sender)
-  pub held_is_next : HeldNext none (packed calls fresh_sender) (view (sender_after calls fresh_sender)).queue.held
+  pub held_is_next : HeldNext None (packed calls fresh_sender) (view (sender_after calls fresh_sender)).queue.held
   pub is_sent_by_codes : sent_by calls fresh_sender ++ still_owed (sender_after calls fresh_sender).repeats ≡ sent_by_codes (packed calls fresh_sender)
 
 abbrev pub QueuedCommandsLaw : Type 0

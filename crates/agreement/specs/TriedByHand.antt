@@ -1,7 +1,7 @@
 -- 01's pairs tried by hand that are to be proved, those marked P, as one list in 01's order, each with what is asked of
 -- it and what it gives. A pair is read by itself, or pairs by a fresh receiver, or codes are queued and pairs popped.
 use Rattle.std.specs.Prelude.{ℕ, false, List, [], ◌∷◌, ◌++◌, map, replicate}
-use Rattle.std.proofs.Math.Option.{Option, none, some}
+use Rattle.std.specs.Prelude.{Option, None, Some}
 use Rattle.code.specs.Channel.{channel_one, field_one, field_two}
 use Rattle.code.specs.MidRow.{italic}
 use Rattle.code.specs.Outcome.{Outcome, answer}
@@ -61,7 +61,7 @@ abbrev row_10_white : Control
 row_10_white = control.Preamble (record { row = 10; underline = false; ty = style.Color White })
 
 abbrev two_rows : Outcome (Option Cea608)
-two_rows = answer (some (event.NewMode channel_one RollUp2))
+two_rows = answer (Some (event.NewMode channel_one RollUp2))
 
 abbrev pop_gives : ℕ → ℕ → Reply
 pop_gives a b = to_pop (answer (pair a b))
@@ -75,8 +75,8 @@ cases =
     ∷ case (reads (pair 0x94 0x2C)) (read_as (Of field_one) (control.Command EraseDisplayedMemory))
     ∷ case (reads (pair 0x97 0xA1)) (read_as Absent (control.Tab TabOffset1))
     ∷ case (reads (pair 0x91 0xAE)) (read_as Absent (control.MidRow (italic false)))
-    ∷ case (hears (roll_up2 ∷ roll_up2 ∷ roll_up2 ∷ [])) (heard (two_rows ∷ answer none ∷ two_rows ∷ []))
-    ∷ case (hears (roll_up2 ∷ padding ∷ roll_up2 ∷ [])) (heard (two_rows ∷ answer none ∷ two_rows ∷ []))
-    ∷ case (hears (hi ∷ [])) (heard (answer none ∷ [])) ∷ case (queues [] 1) (replies (pop_gives 0x80 0x80 ∷ []))
+    ∷ case (hears (roll_up2 ∷ roll_up2 ∷ roll_up2 ∷ [])) (heard (two_rows ∷ answer None ∷ two_rows ∷ []))
+    ∷ case (hears (roll_up2 ∷ padding ∷ roll_up2 ∷ [])) (heard (two_rows ∷ answer None ∷ two_rows ∷ []))
+    ∷ case (hears (hi ∷ [])) (heard (answer None ∷ [])) ∷ case (queues [] 1) (replies (pop_gives 0x80 0x80 ∷ []))
     ∷ case (queues (letter_h ∷ a_acute ∷ []) 2) (replies (acceptance ∷ acceptance ∷ pop_gives 0xC8 0x20 ∷ pop_gives 0x92 0x20 ∷ []))
     ∷ case (queues (a_acute ∷ []) 2) (replies (acceptance ∷ pop_gives 0x20 0x80 ∷ pop_gives 0x92 0x20 ∷ [])) ∷ []

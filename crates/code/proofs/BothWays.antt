@@ -2,7 +2,7 @@
 -- its character, with the given channel and no field.
 -- Assumes nothing.
 use mathlib.Core.Bool.{true, true≢false}
-use mathlib.Core.Option.{Option, none, some}
+use Rattle.std.specs.Prelude.{Option, None, Some}
 use mathlib.Core.Path.{◌≡◌, refl, ap, sym, ◌∙◌}
 use Prim.Native.Nat.{ℕ}
 use native.Mathlib.Omega.{arith}
@@ -45,25 +45,25 @@ is_that_point : (c : ℕ) (k : Character) → is_point c k ≡ true → k ≡ Po
 is_that_point c (Point d) e = ap Point (sym (eqb-true c d e))
 is_that_point c character.Absent e = absurd (true≢false (sym e))
 
-letter_has : (c i : ℕ) → place_of c standard ≡ some i → char_of (code.Letter (letter_at i)) ≡ Point c
+letter_has : (c i : ℕ) → place_of c standard ≡ Some i → char_of (code.Letter (letter_at i)) ≡ Point c
 unfolding standard char_of
 letter_has c i e =
     ap (λ (n : ℕ). get_or standard n character.Absent) (letter_place_lem i (first_inside (is_point c) standard i e))
     ∙ is_that_point c (get_or standard i character.Absent) (first_passes (is_point c) standard character.Absent i e)
 
-symbol_has : (c i : ℕ) (ch : Channel) → place_of c symbols ≡ some i → char_of (symbol_as Absent ch (symbol_at i)) ≡ Point c
+symbol_has : (c i : ℕ) (ch : Channel) → place_of c symbols ≡ Some i → char_of (symbol_as Absent ch (symbol_at i)) ≡ Point c
 unfolding symbols char_of
 symbol_has c i ch e =
     ap (λ (n : ℕ). get_or symbols n character.Absent) (symbol_place_lem i (first_inside (is_point c) symbols i e))
     ∙ is_that_point c (get_or symbols i character.Absent) (first_passes (is_point c) symbols character.Absent i e)
 
 by_symbol : (c : ℕ) (ch : Channel) (x : Code) (o : Option ℕ) → place_of c symbols ≡ o → symbol_code ch o ≡ answer x → char_of x ≡ Point c
-by_symbol c ch x none place e = absurd (clash (sym e))
-by_symbol c ch x (some i) place e = ap char_of (sym (same e)) ∙ symbol_has c i ch place
+by_symbol c ch x None place e = absurd (clash (sym e))
+by_symbol c ch x (Some i) place e = ap char_of (sym (same e)) ∙ symbol_has c i ch place
 
 by_letter : (c : ℕ) (ch : Channel) (x : Code) (o : Option ℕ) → place_of c standard ≡ o → letter_code o (symbol_code ch (place_of c symbols)) ≡ answer x → char_of x ≡ Point c
-by_letter c ch x none place e = by_symbol c ch x (place_of c symbols) refl e
-by_letter c ch x (some i) place e = ap char_of (sym (same e)) ∙ letter_has c i place
+by_letter c ch x None place e = by_symbol c ch x (place_of c symbols) refl e
+by_letter c ch x (Some i) place e = ap char_of (sym (same e)) ∙ letter_has c i place
 
 pub a_characters_code_has_it : (c : ℕ) (ch : Channel) (x : Code) → from_char c ch ≡ answer x → char_of x ≡ Point c
 unfolding from_char
@@ -76,19 +76,19 @@ a_letter_has_a_character l = (get_or all_points (letter_place l) 0, sym (letter_
 
 -- and what a character's code is, if it is no letter: a symbol with no field and the given channel
 symbol_or_not : (ch : Channel) (k : ControlCode) (o : Option ℕ) → symbol_code ch o ≡ answer (code.Control k) → (s : Symbol) × (k ≡ record { field = Absent; channel = ch; control = control.Symbol s })
-symbol_or_not ch k none e = absurd (clash (sym e))
-symbol_or_not ch k (some i) e = (symbol_at i, let z : k ≡ record { field = Absent; channel = ch; control = control.Symbol (symbol_at i) } = cc in z)
+symbol_or_not ch k None e = absurd (clash (sym e))
+symbol_or_not ch k (Some i) e = (symbol_at i, let z : k ≡ record { field = Absent; channel = ch; control = control.Symbol (symbol_at i) } = cc in z)
 
 by_place : (c : ℕ) (ch : Channel) (k : ControlCode) (o : Option ℕ) → letter_code o (symbol_code ch (place_of c symbols)) ≡ answer (code.Control k) → (s : Symbol) × (k ≡ record { field = Absent; channel = ch; control = control.Symbol s })
-by_place c ch k none e = symbol_or_not ch k (place_of c symbols) e
-by_place c ch k (some i) e = let z : ◌≡◌ {A = ℕ} 0 1 = cc in absurd (omega arith)
+by_place c ch k None e = symbol_or_not ch k (place_of c symbols) e
+by_place c ch k (Some i) e = let z : ◌≡◌ {A = ℕ} 0 1 = cc in absurd (omega arith)
 
 pub a_characters_control_is_a_symbol : (c : ℕ) (ch : Channel) (k : ControlCode) → from_char c ch ≡ answer (code.Control k) → (s : Symbol) × (k ≡ record { field = Absent; channel = ch; control = control.Symbol s })
 unfolding from_char
 a_characters_control_is_a_symbol c ch k e = by_place c ch k (place_of c standard) e
 
 -- the place of a letter's character is the letter's own
-letter_at_its_place : (l : Letter) (c : ℕ) → char_of (code.Letter l) ≡ Point c → place_of c standard ≡ some (letter_place l)
+letter_at_its_place : (l : Letter) (c : ℕ) → char_of (code.Letter l) ≡ Point c → place_of c standard ≡ Some (letter_place l)
 unfolding char_of
 letter_at_its_place l c e = sym (ap (first_place_of standard) e) ∙ letter_once (letter_place l) (letter_small l)
 
@@ -99,7 +99,7 @@ a_letter_is_its_characters_code l c ch e =
     ∙ ap (λ (x : Letter). answer (code.Letter x)) (letter_again l)
 
 -- a symbol's character is no standard one, and its place among the symbols is the symbol's own
-symbol_is_no_letter : (s : Symbol) (c : ℕ) → symbol_char s ≡ Point c → place_of c standard ≡ none
+symbol_is_no_letter : (s : Symbol) (c : ℕ) → symbol_char s ≡ Point c → place_of c standard ≡ None
 symbol_is_no_letter s c e = sym (ap (first_place_of standard) e) ∙ symbol_apart (symbol_place s) (symbol_small s)
 
 pub a_symbol_is_its_characters_code : (f : CodeField) (d : Channel) (s : Symbol) (c : ℕ) (ch : Channel) → char_of (symbol_as f d s) ≡ Point c → from_char c ch ≡ answer (symbol_as Absent ch s)

@@ -3,7 +3,7 @@
 -- Assumes nothing.
 use mathlib.Core.Bool.{Bool, false, cond}
 use mathlib.Core.List.{List, [], ◌∷◌, ◌++◌, map}
-use mathlib.Core.Option.{some}
+use Rattle.std.specs.Prelude.{Some}
 use mathlib.Core.Path.{◌≡◌, refl, ap, sym, ◌∙◌}
 use Prim.Native.Nat.{ℕ, zero, suc, ◌≤◌, ◌<◌}
 use lib.Count.{ones, ones_in}
@@ -65,7 +65,7 @@ pub styles_in_order :
     × (map mid_row_number (map (λ (c : color.Color). colored c false) colors ++ (italic false ∷ [])) ≡ count_from 0 8)
 styles_in_order = (refl, refl)
 
-pub indents_by_column : map indent_in indents ≡ map some indent_columns
+pub indents_by_column : map indent_in indents ≡ map Some indent_columns
 indents_by_column = refl
 
 pub channels_and_fields_by_number : (channel_id channel_one ≡ 1) × (channel_id channel_two ≡ 2) × (field_id field_one ≡ 1) × (field_id field_two ≡ 2)

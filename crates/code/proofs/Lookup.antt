@@ -2,7 +2,8 @@
 -- which an entry without a character is kept, so that 0 is not searched for.
 -- Assumes nothing.
 use mathlib.Core.List.{List, [], ◌∷◌, ◌++◌, map}
-use mathlib.Core.Option.{Option, none, some, none-ne-some, some-injective}
+use Rattle.std.specs.Prelude.{Option, None, Some}
+use Rattle.std.proofs.lemmas.Option.{none-some, same_Some}
 use mathlib.Core.Path.{◌≡◌, refl, ap, sym, ◌∙◌}
 use Prim.Native.Nat.{ℕ, zero, suc, ◌-◌, ◌<◌}
 use native.Mathlib.Omega.{arith}
@@ -34,7 +35,7 @@ point_place c [] h = refl
 point_place c (k ∷ l) h = rw (same_test c k h, point_place c l h) refl
 
 -- a character is found among the symbols alone, since the commands and tabs after them have none
-none_in_empty : (c n : ℕ) → place_of c (replicate n character.Absent) ≡ none
+none_in_empty : (c n : ℕ) → place_of c (replicate n character.Absent) ≡ None
 none_in_empty c zero = refl
 none_in_empty c (suc n) = ap later (none_in_empty c n)
 
@@ -57,40 +58,40 @@ unfolding from_char standard symbols
 zero_has_no_code ch = refl
 
 module _ (c : ℕ) (ch : Channel) (some_character : c ≡ 0 → ⊥) where
-  pub symbol_inside : (i : ℕ) → position c (map point_of control_entries) ≡ some i → i < 80
+  pub symbol_inside : (i : ℕ) → position c (map point_of control_entries) ≡ Some i → i < 80
   unfolding symbols
   symbol_inside i found = first_inside (is_point c) symbols i (sym (symbol_place_lem c some_character) ∙ found)
 
-  pub found_symbol : (i : ℕ) → position c (map point_of control_entries) ≡ some i → answer (code.Control (record { field = Absent; channel = ch; control = control.Symbol (symbol_at i) })) ≡ symbol_code ch (place_of c symbols)
-  found_symbol i found = let place : place_of c symbols ≡ some i = sym (symbol_place_lem c some_character) ∙ found in rw place
+  pub found_symbol : (i : ℕ) → position c (map point_of control_entries) ≡ Some i → answer (code.Control (record { field = Absent; channel = ch; control = control.Symbol (symbol_at i) })) ≡ symbol_code ch (place_of c symbols)
+  found_symbol i found = let place : place_of c symbols ≡ Some i = sym (symbol_place_lem c some_character) ∙ found in rw place
 
-  pub found_no_symbol : position c (map point_of control_entries) ≡ none → refused 5 ≡ symbol_code ch (place_of c symbols)
-  found_no_symbol found = let place : place_of c symbols ≡ none = sym (symbol_place_lem c some_character) ∙ found in rw place
+  pub found_no_symbol : position c (map point_of control_entries) ≡ None → refused 5 ≡ symbol_code ch (place_of c symbols)
+  found_no_symbol found = let place : place_of c symbols ≡ None = sym (symbol_place_lem c some_character) ∙ found in rw place
 
   -- the entry after NUL
-  entry_after : (o : Option ℕ) (i : ℕ) → later o ≡ some i → (0 < i) × (o ≡ some (i - 1))
-  entry_after none i e = absurd (none-ne-some i e)
-  entry_after (some j) i e =
-      let one_more_lem : suc j ≡ i = some-injective (suc j) i e in
-      (omega (arith, one_more_lem), ap some (omega (arith, one_more_lem)))
+  entry_after : (o : Option ℕ) (i : ℕ) → later o ≡ Some i → (0 < i) × (o ≡ Some (i - 1))
+  entry_after None i e = absurd (none-some i e)
+  entry_after (Some j) i e =
+      let one_more_lem : suc j ≡ i = same_Some (suc j) i e in
+      (omega (arith, one_more_lem), ap Some (omega (arith, one_more_lem)))
 
-  letter_found : (i : ℕ) → position c (map point_of code_entries) ≡ some i → (0 < i) × (place_of c standard ≡ some (i - 1))
+  letter_found : (i : ℕ) → position c (map point_of code_entries) ≡ Some i → (0 < i) × (place_of c standard ≡ Some (i - 1))
   letter_found i found = entry_after (place_of c standard) i (sym (letter_entry c some_character) ∙ found)
 
-  pub letter_inside : (i : ℕ) → position c (map point_of code_entries) ≡ some i → (0 < i) × (i - 1 < 96)
+  pub letter_inside : (i : ℕ) → position c (map point_of code_entries) ≡ Some i → (0 < i) × (i - 1 < 96)
   unfolding standard
   letter_inside i found =
       let known = letter_found i found in
       (known.0, first_inside (is_point c) standard (i - 1) known.1)
 
-  pub found_letter : (i : ℕ) → position c (map point_of code_entries) ≡ some i → answer (code.Letter (letter_at (i - 1))) ≡ from_char c ch
+  pub found_letter : (i : ℕ) → position c (map point_of code_entries) ≡ Some i → answer (code.Letter (letter_at (i - 1))) ≡ from_char c ch
   unfolding from_char
   found_letter i found = rw (letter_found i found).1 refl
 
-  not_found : (o : Option ℕ) → later o ≡ none → o ≡ none
-  not_found none e = refl
-  not_found (some j) e = absurd (none-ne-some (suc j) (sym e))
+  not_found : (o : Option ℕ) → later o ≡ None → o ≡ None
+  not_found None e = refl
+  not_found (Some j) e = absurd (none-some (suc j) (sym e))
 
-  pub found_no_letter : position c (map point_of code_entries) ≡ none → symbol_code ch (place_of c symbols) ≡ from_char c ch
+  pub found_no_letter : position c (map point_of code_entries) ≡ None → symbol_code ch (place_of c symbols) ≡ from_char c ch
   unfolding from_char
   found_no_letter found = rw (not_found (place_of c standard) (sym (letter_entry c some_character) ∙ found)) refl

@@ -2,7 +2,7 @@
 -- by the first byte and then the second's upper digit. One computation over all pairs shows that it is the definition.
 -- Assumes nothing.
 use mathlib.Core.Bool.{Bool, true, cond, ◌&&◌}
-use mathlib.Core.Option.{Option, none, some}
+use Rattle.std.specs.Prelude.{Option, None, Some}
 use mathlib.Core.Path.{◌≡◌, refl, ap, sym, ◌∙◌}
 use Prim.Native.Nat.{ℕ, ◌+◌, ◌/◌, ◌%◌, ◌≤◌, ◌<◌}
 use borrow.Author.Tests.{le-leb, lt-leb, ltb-true}
@@ -25,22 +25,22 @@ use Rattle.code.specs.declared.read.Meaning.TheVariants as meant
 use Rattle.code.specs.declared.symbol.SymbolRow.TheVariants.{Special, Spanish, French, Portuguese, German}
 
 abbrev pub preamble_of : ℕ → ℕ → Option Control
-preamble_of b row = some (control.Preamble (record { row = row; underline = underlined b; ty = style_at (b % 32 / 2) }))
+preamble_of b row = Some (control.Preamble (record { row = row; underline = underlined b; ty = style_at (b % 32 / 2) }))
 
 abbrev pub decided_row : ℕ → ℕ → Option Control
-decided_row p b = cond (ltb b 0x60) (preamble_of b (first_row_at (p % 8))) (cond (eqb p 0x10) none (preamble_of b (first_row_at (p % 8) + 1)))
+decided_row p b = cond (ltb b 0x60) (preamble_of b (first_row_at (p % 8))) (cond (eqb p 0x10) None (preamble_of b (first_row_at (p % 8) + 1)))
 
 -- by the first byte, then by the upper digit of the second
 abbrev pub decided_other : ℕ → ℕ → Option Control
 decided_other p b =
     let digit = b / 16 in
     cond (eqb p 0x11)
-    (cond (eqb digit 2) (some (control.MidRow (mid_row_at (b % 16 / 2) (underlined b))))
-    (cond (eqb digit 3) (symbol_in Special b) none))
-    (cond (eqb p 0x12) (cond (eqb digit 2) (symbol_in Spanish b) (cond (eqb digit 3) (symbol_in French b) none))
-    (cond (eqb p 0x13) (cond (eqb digit 2) (symbol_in Portuguese b) (cond (eqb digit 3) (symbol_in German b) none))
-    (cond (eqb p 0x14) (cond (eqb digit 2) (some (control.Command (command_at (b % 16)))) none)
-    (cond (eqb p 0x17) (cond (eqb digit 2) (tab_in b) none) none))))
+    (cond (eqb digit 2) (Some (control.MidRow (mid_row_at (b % 16 / 2) (underlined b))))
+    (cond (eqb digit 3) (symbol_in Special b) None))
+    (cond (eqb p 0x12) (cond (eqb digit 2) (symbol_in Spanish b) (cond (eqb digit 3) (symbol_in French b) None))
+    (cond (eqb p 0x13) (cond (eqb digit 2) (symbol_in Portuguese b) (cond (eqb digit 3) (symbol_in German b) None))
+    (cond (eqb p 0x14) (cond (eqb digit 2) (Some (control.Command (command_at (b % 16)))) None)
+    (cond (eqb p 0x17) (cond (eqb digit 2) (tab_in b) None) None))))
 
 abbrev pub decided : ℕ → ℕ → Option Control
 decided p b = cond (leb 0x40 b) (decided_row p b) (decided_other p b)
@@ -82,8 +82,8 @@ meant_or a b (meant.Of c) = c
 meant_or a b meant.Absent = control.Unknown a b
 
 said_is : (a b : ℕ) (o : Option Control) → meant_or a b (meaning_of o) ≡ or_unknown a b o
-said_is a b none = refl
-said_is a b (some c) = refl
+said_is a b None = refl
+said_is a b (Some c) = refl
 
 pub parsed : (a b p : ℕ) (ch : Channel) (f : CodeField) (r : Meaning) → 16 ≤ a → a < 32 → ch ≡ channel_of a → f ≡ field_of (a % 8 + 16) b → p ≡ without_field (a % 8 + 16) b → r ≡ meaning_of (meaning p b) → ◌≡◌ {A = ControlCode} (record { field = f; channel = ch; control = meant_or a b r }) (control_code_of a b)
 unfolding control_code_of

@@ -2,7 +2,7 @@
 -- and writing undo each other on controls that have a meaning.
 -- Assumes nothing.
 use mathlib.Core.Bool.{Bool, true, false, ◌&&◌}
-use mathlib.Core.Option.{Option, some}
+use Rattle.std.specs.Prelude.{Option, Some}
 use mathlib.Core.Path.{◌≡◌, refl, ap, ◌∙◌}
 use Prim.Native.Nat.{ℕ, ◌+◌, ◌*◌, ◌<◌, zero-le}
 use Rattle.code.proofs.Agree.{agree, agree_grid}
@@ -55,17 +55,17 @@ kind_again : (k : MidRowColor) (u : Bool) → mid_row_at (kind_number k) u ≡ r
 kind_again (kind.Color c) u = color_again c u
 kind_again kind.Italics u = refl
 
-mid_row_at_lem : (n : ℕ) (u : Bool) → n < 8 → meaning 0x11 (0x20 + 2 * n + bit u) ≡ some (control.MidRow (mid_row_at n u))
+mid_row_at_lem : (n : ℕ) (u : Bool) → n < 8 → meaning 0x11 (0x20 + 2 * n + bit u) ≡ Some (control.MidRow (mid_row_at n u))
 unfolding meaning
 mid_row_at_lem n true less =
-    agree (λ (x : ℕ). meaning 0x11 (0x20 + 2 * x + 1)) (λ (x : ℕ). some (control.MidRow (mid_row_at x true))) 8 refl n less
+    agree (λ (x : ℕ). meaning 0x11 (0x20 + 2 * x + 1)) (λ (x : ℕ). Some (control.MidRow (mid_row_at x true))) 8 refl n less
 mid_row_at_lem n false less =
-    agree (λ (x : ℕ). meaning 0x11 (0x20 + 2 * x + 0)) (λ (x : ℕ). some (control.MidRow (mid_row_at x false))) 8 refl n less
+    agree (λ (x : ℕ). meaning 0x11 (0x20 + 2 * x + 0)) (λ (x : ℕ). Some (control.MidRow (mid_row_at x false))) 8 refl n less
 
-pub mid_row_meant : (m : MidRow) → meant (mid_row_bytes m) ≡ some (control.MidRow m)
+pub mid_row_meant : (m : MidRow) → meant (mid_row_bytes m) ≡ Some (control.MidRow m)
 mid_row_meant m =
     mid_row_at_lem (mid_row_number m) m.underline (kind_small m.color)
-    ∙ ap (λ (x : MidRow). some (control.MidRow x)) (kind_again m.color m.underline)
+    ∙ ap (λ (x : MidRow). Some (control.MidRow x)) (kind_again m.color m.underline)
 
 mid_row_fits : (n : ℕ) (u : Bool) → n < 8 → is_pair_of_control (pair 0x11 (0x20 + 2 * n + bit u)) ≡ true
 mid_row_fits n true less = agree (λ (x : ℕ). is_pair_of_control (pair 0x11 (0x20 + 2 * x + 1))) (λ (x : ℕ). true) 8 refl n less
@@ -75,22 +75,22 @@ pub mid_row_pair : (m : MidRow) → is_pair_of_control (mid_row_bytes m) ≡ tru
 mid_row_pair m = mid_row_fits (mid_row_number m) m.underline (kind_small m.color)
 
 -- symbols
-symbol_at_lem : (r c : ℕ) → r < 5 → c < 16 → meant (plus (symbol_base (symbol_row_at r)) c) ≡ some (control.Symbol (record { row = symbol_row_at r; column = column_at c }))
+symbol_at_lem : (r c : ℕ) → r < 5 → c < 16 → meant (plus (symbol_base (symbol_row_at r)) c) ≡ Some (control.Symbol (record { row = symbol_row_at r; column = column_at c }))
 unfolding meaning
 symbol_at_lem r c inside less =
-    agree_grid (λ (x y : ℕ). meant (plus (symbol_base (symbol_row_at x)) y)) (λ (x y : ℕ). some (control.Symbol (record { row = symbol_row_at x; column = column_at y }))) 0 5 16 refl
+    agree_grid (λ (x y : ℕ). meant (plus (symbol_base (symbol_row_at x)) y)) (λ (x y : ℕ). Some (control.Symbol (record { row = symbol_row_at x; column = column_at y }))) 0 5 16 refl
     r
     c
     zero-le
     inside
     less
 
-symbol_again : (r : SymbolRow) (c : Column) → meant (plus (symbol_base r) (column_number c)) ≡ some (control.Symbol (record { row = r; column = c }))
+symbol_again : (r : SymbolRow) (c : Column) → meant (plus (symbol_base r) (column_number c)) ≡ Some (control.Symbol (record { row = r; column = c }))
 symbol_again r c =
     let known = symbol_at_lem (symbol_row_number r) (column_number c) (symbol_row_back r).0 (column_back c).0 in
     rw ((symbol_row_back r).1, (column_back c).1) at known
 
-pub symbol_meant : (s : Symbol) → meant (symbol_bytes s) ≡ some (control.Symbol s)
+pub symbol_meant : (s : Symbol) → meant (symbol_bytes s) ≡ Some (control.Symbol s)
 symbol_meant s = symbol_again s.row s.column
 
 symbol_fits : (r c : ℕ) → r < 5 → c < 16 → is_pair_of_control (plus (symbol_base (symbol_row_at r)) c) ≡ true
@@ -103,11 +103,11 @@ symbol_pair s =
     rw (symbol_row_back s.row).1 at known
 
 -- commands and tabs
-pub command_meant : (c : Command) → meant (command_bytes c) ≡ some (control.Command c)
+pub command_meant : (c : Command) → meant (command_bytes c) ≡ Some (control.Command c)
 unfolding meaning
 command_meant c =
-    agree (λ (x : ℕ). meaning 0x14 (0x20 + x)) (λ (x : ℕ). some (control.Command (command_at x))) 16 refl (command_number c) (command_back c).0
-    ∙ ap (λ (x : Command). some (control.Command x)) (command_back c).1
+    agree (λ (x : ℕ). meaning 0x14 (0x20 + x)) (λ (x : ℕ). Some (control.Command (command_at x))) 16 refl (command_number c) (command_back c).0
+    ∙ ap (λ (x : Command). Some (control.Command x)) (command_back c).1
 
 pub command_pair : (c : Command) → is_pair_of_control (command_bytes c) ≡ true
 command_pair c = agree (λ (x : ℕ). is_pair_of_control (pair 0x14 (0x20 + x))) (λ (x : ℕ). true) 16 refl (command_number c) (command_back c).0
@@ -117,7 +117,7 @@ tab_pair tab.TabOffset1 = refl
 tab_pair tab.TabOffset2 = refl
 tab_pair tab.TabOffset3 = refl
 
-pub tab_meant : (t : Tab) → meant (tab_bytes t) ≡ some (control.Tab t)
+pub tab_meant : (t : Tab) → meant (tab_bytes t) ≡ Some (control.Tab t)
 unfolding meaning
 tab_meant tab.TabOffset1 = refl
 tab_meant tab.TabOffset2 = refl
@@ -127,17 +127,17 @@ tab_meant tab.TabOffset3 = refl
 abbrev preamble_in : ℕ → ℕ → Bool → Control
 preamble_in row style u = control.Preamble (record { row = row; underline = u; ty = style_at style })
 
-preamble_at_lem : (row n : ℕ) (u : Bool) → row < 15 → n < 16 → meant (plus (row_prefix row) (2 * n + bit u)) ≡ some (preamble_in row n u)
+preamble_at_lem : (row n : ℕ) (u : Bool) → row < 15 → n < 16 → meant (plus (row_prefix row) (2 * n + bit u)) ≡ Some (preamble_in row n u)
 unfolding meaning
 preamble_at_lem row n true inside less =
-    agree_grid (λ (x y : ℕ). meant (plus (row_prefix x) (2 * y + 1))) (λ (x y : ℕ). some (preamble_in x y true)) 0 15 16 refl row n zero-le inside less
+    agree_grid (λ (x y : ℕ). meant (plus (row_prefix x) (2 * y + 1))) (λ (x y : ℕ). Some (preamble_in x y true)) 0 15 16 refl row n zero-le inside less
 preamble_at_lem row n false inside less =
-    agree_grid (λ (x y : ℕ). meant (plus (row_prefix x) (2 * y + 0))) (λ (x y : ℕ). some (preamble_in x y false)) 0 15 16 refl row n zero-le inside less
+    agree_grid (λ (x y : ℕ). meant (plus (row_prefix x) (2 * y + 0))) (λ (x y : ℕ). Some (preamble_in x y false)) 0 15 16 refl row n zero-le inside less
 
-pub preamble_meant : (p : PreambleAddressCode) → p.row < 15 → meant (preamble_bytes p) ≡ some (control.Preamble p)
+pub preamble_meant : (p : PreambleAddressCode) → p.row < 15 → meant (preamble_bytes p) ≡ Some (control.Preamble p)
 preamble_meant p inside =
     preamble_at_lem p.row (style_of p.ty) p.underline inside (style_back p.ty).0
-    ∙ ap {B = Option Control} (λ (t : PreambleType). some (control.Preamble (record { row = p.row; underline = p.underline; ty = t }))) (style_back p.ty).1
+    ∙ ap {B = Option Control} (λ (t : PreambleType). Some (control.Preamble (record { row = p.row; underline = p.underline; ty = t }))) (style_back p.ty).1
 
 preamble_fits : (row n : ℕ) (u : Bool) → row < 15 → n < 16 → is_pair_of_control (plus (row_prefix row) (2 * n + bit u)) ≡ true
 preamble_fits row n true inside less =

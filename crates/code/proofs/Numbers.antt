@@ -2,7 +2,7 @@
 -- Assumes nothing.
 use mathlib.Core.Path.{◌≡◌, refl, ap, ap₂, ◌∙◌}
 use mathlib.Core.Bool.{cond}
-use mathlib.Core.Option.{none, some}
+use Rattle.std.specs.Prelude.{None, Some}
 use Prim.Native.Nat.{ℕ, ◌*◌, ◌-◌, ◌/◌, ◌%◌, ◌<◌}
 use native.Mathlib.Nat.{lt_trans}
 use native.Mathlib.Omega.{arith}
@@ -171,7 +171,7 @@ color_by_number style.Indent20 = refl
 color_by_number style.Indent24 = refl
 color_by_number style.Indent28 = refl
 
-pub indent_by_number : (t : PreambleType) → cond (leb 8 (style_of t)) (some ((style_of t - 8) * 4)) none ≡ indent_in t
+pub indent_by_number : (t : PreambleType) → cond (leb 8 (style_of t)) (Some ((style_of t - 8) * 4)) None ≡ indent_in t
 indent_by_number (style.Color c) = rw (lt-leb 8 (color_number c) (omega (arith, (color_back c).0)))
 indent_by_number style.WhiteItalics = refl
 indent_by_number style.Indent0 = refl

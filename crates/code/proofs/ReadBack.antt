@@ -3,7 +3,8 @@
 -- back.
 -- Assumes nothing.
 use mathlib.Core.Bool.{Bool, true, false, ◌&&◌, true≢false}
-use mathlib.Core.Option.{Option, none-ne-some, none, some}
+use Rattle.std.specs.Prelude.{Option, None, Some}
+use Rattle.std.proofs.lemmas.Option.{none-some}
 use mathlib.Core.Path.{◌≡◌, refl, ap, ap₂, sym, ◌∙◌}
 use Prim.Native.Nat.{ℕ, ◌+◌, ◌≤◌, ◌<◌}
 use borrow.Author.Tests.{le-leb, ltb-false, ltb-true}
@@ -56,8 +57,8 @@ channel_kept false a from below = agree_from (λ (x : ℕ). channel_of (with_cha
 
 -- and so is the field, where the bytes mean something: 15 before 20 to 2F does not
 abbrev if_meant : Option Control → Option Control → Option Control
-if_meant none m = none
-if_meant (some c) m = m
+if_meant None m = None
+if_meant (Some c) m = m
 
 abbrev read_as : CodeField → ℕ → ℕ → Option Control
 read_as f a b = meaning (without_field (with_field f (pair a b)) b) b
@@ -74,12 +75,12 @@ field_back (Of f) a b from below less = named f.0
 
 -- the field that is read, where the bytes mean something
 abbrev if_meant_field : Option Control → CodeField → CodeField
-if_meant_field none f = Absent
-if_meant_field (some c) f = f
+if_meant_field None f = Absent
+if_meant_field (Some c) f = f
 
 abbrev field_meant : CodeField → Option Control → CodeField
-field_meant f none = Absent
-field_meant f (some c) = field_read f c
+field_meant f None = Absent
+field_meant f (Some c) = field_read f c
 
 abbrev field_written : CodeField → ℕ → ℕ → CodeField
 field_written f a b = field_of (with_field f (pair a b)) b
@@ -109,7 +110,7 @@ channel_between false a from below = (
 )
 
 -- two bytes that mean a control, as they are written and read
-module _ (f : CodeField) (ch : Channel) (a b : ℕ) (c : Control) (from : 16 ≤ a) (below : a < 24) (less : b < 128) (means : meaning a b ≡ some c) where
+module _ (f : CodeField) (ch : Channel) (a b : ℕ) (c : Control) (from : 16 ≤ a) (below : a < 24) (less : b < 128) (means : meaning a b ≡ Some c) where
   abbrev named : ℕ
   named = with_field f (pair a b)
 
@@ -120,7 +121,7 @@ module _ (f : CodeField) (ch : Channel) (a b : ℕ) (c : Control) (from : 16 ≤
   inside = field_between f a b from below
 
   -- what was read is what was meant
-  means_again : meaning (without_field (without_channel first_byte) b) b ≡ some c
+  means_again : meaning (without_field (without_channel first_byte) b) b ≡ Some c
   means_again =
       ap (λ (x : ℕ). meaning (without_field x b) b) (channel_back ch.0 named inside.0 inside.1)
       ∙ sym (ap (λ (m : Option Control). if_meant m (read_as f a b)) means)
@@ -163,16 +164,16 @@ module _ (f : CodeField) (ch : Channel) (a b : ℕ) (c : Control) (from : 16 ≤
       ∙ ap {B = Outcome (Code × Code)} (λ (x : ControlCode). answer (code.Control x, code.Nul)) command_back
 
 -- from 18 on no first byte, channel aside, means anything
-none_above : (a b : ℕ) → 24 ≤ a → a < 32 → b < 128 → meaning a b ≡ none
+none_above : (a b : ℕ) → 24 ≤ a → a < 32 → b < 128 → meaning a b ≡ None
 unfolding meaning
-none_above a b from below less = agree_grid meaning (λ (x y : ℕ). none) 24 8 128 refl a b from below less
+none_above a b from below less = agree_grid meaning (λ (x y : ℕ). None) 24 8 128 refl a b from below less
 
-first_below : (a b : ℕ) (c : Control) (t : Bool) → ltb a 24 ≡ t → a < 32 → b < 128 → meaning a b ≡ some c → a < 24
+first_below : (a b : ℕ) (c : Control) (t : Bool) → ltb a 24 ≡ t → a < 32 → b < 128 → meaning a b ≡ Some c → a < 24
 first_below a b c true e to less means = ltb-true a 24 e
 first_below a b c false e to less means =
-    absurd (none-ne-some c (sym (none_above a b (ltb-false a 24 e) to less) ∙ means))
+    absurd (none-some c (sym (none_above a b (ltb-false a 24 e) to less) ∙ means))
 
-by_bytes : (f : CodeField) (ch : Channel) (c : Control) (p : Pair) → control_bytes c ≡ answer p → is_pair_of_control p ≡ true → meant p ≡ some c → ReadsBack f ch c
+by_bytes : (f : CodeField) (ch : Channel) (c : Control) (p : Pair) → control_bytes c ≡ answer p → is_pair_of_control p ≡ true → meant p ≡ Some c → ReadsBack f ch c
 by_bytes f ch c p bytes fits means =
     let both = both_true (is_command p.0) (is_seven_bits p.1) fits in
     let first = command_range p.0 both.0 in

@@ -2,7 +2,7 @@
 -- bytes are read as that entry, and the entry is written as its bytes; a character occurs once.
 -- Assumes nothing.
 use mathlib.Core.List.{List}
-use mathlib.Core.Option.{Option, none, some}
+use Rattle.std.specs.Prelude.{Option, None, Some}
 use mathlib.Core.Path.{◌≡◌, refl, ap, sym, ◌∙◌}
 use Prim.Native.Nat.{ℕ, ◌/◌, ◌%◌, ◌<◌}
 use lib.Count.{ones, ones_in}
@@ -44,10 +44,10 @@ unfolding ones ones_in write_code code_entries standard
 entry_written i less = agree (λ (x : ℕ). write_code (code_at x)) (λ (x : ℕ). as_single (code_bytes x)) 97 refl i less
 
 -- the control table, both ways
-pub control_read : (i : ℕ) → i < 99 → meaning (entry_bytes i / 256) (entry_bytes i % 256) ≡ some (control_at i)
+pub control_read : (i : ℕ) → i < 99 → meaning (entry_bytes i / 256) (entry_bytes i % 256) ≡ Some (control_at i)
 unfolding control_entries meaning
 control_read i less =
-    agree (λ (x : ℕ). meaning (entry_bytes x / 256) (entry_bytes x % 256)) (λ (x : ℕ). some (control_at x)) 99 refl i less
+    agree (λ (x : ℕ). meaning (entry_bytes x / 256) (entry_bytes x % 256)) (λ (x : ℕ). Some (control_at x)) 99 refl i less
 
 pub control_written : (i : ℕ) → i < 99 → control_bytes (control_at i) ≡ answer (two_bytes (entry_bytes i))
 unfolding control_entries control_bytes
@@ -55,29 +55,29 @@ control_written i less =
     agree (λ (x : ℕ). control_bytes (control_at x)) (λ (x : ℕ). answer (two_bytes (entry_bytes x))) 99 refl i less
 
 -- each row's prefix is its own
-pub row_back : (row : ℕ) → row < 15 → first_place (same_pair (row_prefix row)) row_prefixes ≡ some row
-row_back row less = agree (λ (x : ℕ). first_place (same_pair (row_prefix x)) row_prefixes) (λ (x : ℕ). some x) 15 refl row less
+pub row_back : (row : ℕ) → row < 15 → first_place (same_pair (row_prefix row)) row_prefixes ≡ Some row
+row_back row less = agree (λ (x : ℕ). first_place (same_pair (row_prefix x)) row_prefixes) (λ (x : ℕ). Some x) 15 refl row less
 
 -- a character's first place is its only one, and no symbol is a standard character
 abbrev pub first_place_of : List Character → Character → Option ℕ
 first_place_of l (character.Point c) = place_of c l
-first_place_of l character.Absent = none
+first_place_of l character.Absent = None
 
-pub letter_once : (n : ℕ) → n < 96 → first_place_of standard (get_or standard n character.Absent) ≡ some n
+pub letter_once : (n : ℕ) → n < 96 → first_place_of standard (get_or standard n character.Absent) ≡ Some n
 unfolding standard
-letter_once n less = agree (λ (x : ℕ). first_place_of standard (get_or standard x character.Absent)) (λ (x : ℕ). some x) 96 refl n less
+letter_once n less = agree (λ (x : ℕ). first_place_of standard (get_or standard x character.Absent)) (λ (x : ℕ). Some x) 96 refl n less
 
 abbrev only_at : ℕ → Character → Option ℕ
-only_at n (character.Point c) = some n
-only_at n character.Absent = none
+only_at n (character.Point c) = Some n
+only_at n character.Absent = None
 
-pub symbol_once : (n c : ℕ) → n < 80 → get_or symbols n character.Absent ≡ character.Point c → place_of c symbols ≡ some n
+pub symbol_once : (n c : ℕ) → n < 80 → get_or symbols n character.Absent ≡ character.Point c → place_of c symbols ≡ Some n
 unfolding symbols
 symbol_once n c less e =
     sym (ap (first_place_of symbols) e)
     ∙ agree (λ (x : ℕ). first_place_of symbols (get_or symbols x character.Absent)) (λ (x : ℕ). only_at x (get_or symbols x character.Absent)) 80 refl n less
     ∙ ap (only_at n) e
 
-pub symbol_apart : (n : ℕ) → n < 80 → first_place_of standard (get_or symbols n character.Absent) ≡ none
+pub symbol_apart : (n : ℕ) → n < 80 → first_place_of standard (get_or symbols n character.Absent) ≡ None
 unfolding standard symbols
-symbol_apart n less = agree (λ (x : ℕ). first_place_of standard (get_or symbols x character.Absent)) (λ (x : ℕ). none) 80 refl n less
+symbol_apart n less = agree (λ (x : ℕ). first_place_of standard (get_or symbols x character.Absent)) (λ (x : ℕ). None) 80 refl n less

@@ -1,7 +1,7 @@
 -- What else is known of a code, from 01: its length, whether the queue puts a space before it, its character, and the
 -- code of a character.
 use Rattle.std.specs.Prelude.{ℕ, Bool, true, false, get_or}
-use Rattle.std.proofs.Math.Option.{Option, none, some}
+use Rattle.std.specs.Prelude.{Option, None, Some}
 use Rattle.code.specs.Characters.{place_of, standard, symbols}
 use Rattle.code.specs.Letter.{letter_at, letter_place}
 use Rattle.code.specs.Outcome.{Outcome, answer, refused}
@@ -75,13 +75,13 @@ char_of (code.Unknown b) = character.Absent
 -- a character's code: the first standard character that has it, else the first symbol, with no field and the given
 -- channel; 5: none has it
 abbrev pub symbol_code : Channel → Option ℕ → Outcome Code
-symbol_code ch none = refused 5
-symbol_code ch (some i) =
+symbol_code ch None = refused 5
+symbol_code ch (Some i) =
     answer (code.Control (record { field = Absent; channel = ch; control = control.Symbol (symbol_at i) }))
 
 abbrev pub letter_code : Option ℕ → Outcome Code → Outcome Code
-letter_code none other = other
-letter_code (some i) other = answer (code.Letter (letter_at i))
+letter_code None other = other
+letter_code (Some i) other = answer (code.Letter (letter_at i))
 
 unfoldable pub from_char : ℕ → Channel → Outcome Code
 from_char c ch = letter_code (place_of c standard) (symbol_code ch (place_of c symbols))

@@ -1,6 +1,6 @@
 -- Mid-row codes, from 47 CFR 79.101 (h): seven colours, then italics, each with and without an underline.
 use Rattle.std.specs.Prelude.{ℕ, Bool, true, false, cond, ltb}
-use Rattle.std.proofs.Math.Option.{Option, none, some}
+use Rattle.std.specs.Prelude.{Option, None, Some}
 use Rattle.code.specs.Color.{color_at, color_number}
 use Rattle.code.specs.declared.color.Color.{Color}
 use Rattle.code.specs.declared.midrow.MaybeColor.{MaybeColor}
@@ -28,15 +28,15 @@ mid_row_number m = kind_number m.color
 
 -- a colour code sets the colour, and italics leave it
 abbrev pub kind_color : MidRowColor → Option Color
-kind_color (kind.Color c) = some c
-kind_color kind.Italics = none
+kind_color (kind.Color c) = Some c
+kind_color kind.Italics = None
 
 abbrev pub color_in : MidRow → Option Color
 color_in m = kind_color m.color
 
 abbrev pub maybe_color_outcome : MaybeColor → Option Color
-maybe_color_outcome (maybe.Color c) = some c
-maybe_color_outcome maybe.Absent = none
+maybe_color_outcome (maybe.Color c) = Some c
+maybe_color_outcome maybe.Absent = None
 
 abbrev pub kind_italic : MidRowColor → Bool
 kind_italic (kind.Color c) = false

@@ -1,7 +1,7 @@
 -- Preamble address codes, from 47 CFR 79.101 (d) and (h): fifteen rows, and sixteen styles with and without an
 -- underline. That rows are counted from 0, and refusals 3 and 8, are 01's.
 use Rattle.std.specs.Prelude.{ℕ, ◌+◌, ◌-◌, ◌/◌, ◌%◌, Bool, true, false, cond, ◌&&◌, List, [], ◌∷◌, eqb, leb, ltb, get_or}
-use Rattle.std.proofs.Math.Option.{Option, none, some}
+use Rattle.std.specs.Prelude.{Option, None, Some}
 use Rattle.code.specs.Color.{color_at, color_number}
 use Rattle.code.specs.Outcome.{Outcome, answer, refused}
 use Rattle.code.specs.Pair.{pair}
@@ -89,20 +89,20 @@ color_of_style Indent28 = White
 
 -- the column that an indent starts at
 abbrev pub indent_in : PreambleType → Option ℕ
-indent_in (Colored c) = none
-indent_in WhiteItalics = none
-indent_in Indent0 = some 0
-indent_in Indent4 = some 4
-indent_in Indent8 = some 8
-indent_in Indent12 = some 12
-indent_in Indent16 = some 16
-indent_in Indent20 = some 20
-indent_in Indent24 = some 24
-indent_in Indent28 = some 28
+indent_in (Colored c) = None
+indent_in WhiteItalics = None
+indent_in Indent0 = Some 0
+indent_in Indent4 = Some 4
+indent_in Indent8 = Some 8
+indent_in Indent12 = Some 12
+indent_in Indent16 = Some 16
+indent_in Indent20 = Some 20
+indent_in Indent24 = Some 24
+indent_in Indent28 = Some 28
 
 abbrev pub maybe_indent_outcome : MaybeIndent → Option ℕ
-maybe_indent_outcome (Indent n) = some n
-maybe_indent_outcome Absent = none
+maybe_indent_outcome (Indent n) = Some n
+maybe_indent_outcome Absent = None
 
 -- 3: a row above 14
 abbrev pub in_row : {A : Type 0} → ℕ → A → Outcome A
@@ -120,8 +120,8 @@ row_in p = p.row
 
 -- colours and white italics start at the left
 abbrev pub column_of : Option ℕ → ℕ
-column_of (some n) = n
-column_of none = 0
+column_of (Some n) = n
+column_of None = 0
 
 abbrev pub column_in : PreambleAddressCode → ℕ
 column_in p = column_of (indent_in p.ty)

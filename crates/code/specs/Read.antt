@@ -1,7 +1,7 @@
 -- What a pair means. From 47 CFR 79.101 (g), (h), (i): characters, control codes, the channel bit. From CTA-608 as 01
 -- has it: extended characters and the field. From 01: `Unknown`, and refusal 1, which follows the crate against (j).
 use Rattle.std.specs.Prelude.{ℕ, ◌+◌, ◌-◌, ◌/◌, ◌%◌, Bool, cond, ◌&&◌, eqb, leb}
-use Rattle.std.proofs.Math.Option.{Option, none, some}
+use Rattle.std.specs.Prelude.{Option, None, Some}
 use Rattle.code.specs.Channel.{channel_one, channel_two, field_one, field_two}
 use Rattle.code.specs.Column.{column_at}
 use Rattle.code.specs.Control.{command_at, names_field, tab_of}
@@ -55,33 +55,33 @@ abbrev pub row_of : ℕ → ℕ → Option ℕ
 row_of p b = first_place (same_pair (pair p (b - b % 32))) row_prefixes
 
 abbrev pub preamble_at : ℕ → Option ℕ → Option Control
-preamble_at b none = none
-preamble_at b (some row) =
-    some (control.Preamble (record { row = row; underline = underlined b; ty = style_at (b % 32 / 2) }))
+preamble_at b None = None
+preamble_at b (Some row) =
+    Some (control.Preamble (record { row = row; underline = underlined b; ty = style_at (b % 32 / 2) }))
 
 -- a symbol: its row by the first byte and the upper digit of the second, its column by the lower digit
 abbrev pub is_in_row : SymbolRow → ℕ → ℕ → Bool
 is_in_row r p b = eqb p (symbol_base r).0 && within (symbol_base r).1 ((symbol_base r).1 + 15) b
 
 abbrev pub symbol_in : SymbolRow → ℕ → Option Control
-symbol_in r b = some (control.Symbol (record { row = r; column = column_at (b % 16) }))
+symbol_in r b = Some (control.Symbol (record { row = r; column = column_at (b % 16) }))
 
 -- what a first byte, 10 to 17 with 15 already read as 14 where it names a field, and a second byte mean together
 unfoldable pub meaning : ℕ → ℕ → Option Control
 meaning p b =
-    cond (eqb p 0x11 && within 0x20 0x2F b) (some (control.MidRow (mid_row_at ((b - 0x20) / 2) (underlined b))))
+    cond (eqb p 0x11 && within 0x20 0x2F b) (Some (control.MidRow (mid_row_at ((b - 0x20) / 2) (underlined b))))
     (cond (is_in_row Special p b) (symbol_in Special b)
     (cond (is_in_row Spanish p b) (symbol_in Spanish b)
     (cond (is_in_row French p b) (symbol_in French b)
     (cond (is_in_row Portuguese p b) (symbol_in Portuguese b)
     (cond (is_in_row German p b) (symbol_in German b)
-    (cond (eqb p 0x14 && names_field b) (some (control.Command (command_at (b - 0x20))))
-    (cond (eqb p 0x17 && within 0x21 0x23 b) (some (control.Tab (tab_of (b - 0x20)))) (preamble_at b (row_of p b)))))))))
+    (cond (eqb p 0x14 && names_field b) (Some (control.Command (command_at (b - 0x20))))
+    (cond (eqb p 0x17 && within 0x21 0x23 b) (Some (control.Tab (tab_of (b - 0x20)))) (preamble_at b (row_of p b)))))))))
 
 -- what has no meaning keeps its two stripped bytes, with the channel bit
 abbrev pub or_unknown : ℕ → ℕ → Option Control → Control
-or_unknown a b none = control.Unknown a b
-or_unknown a b (some c) = c
+or_unknown a b None = control.Unknown a b
+or_unknown a b (Some c) = c
 
 -- the control code of two stripped bytes
 unfoldable pub control_code_of : ℕ → ℕ → ControlCode

@@ -2,7 +2,7 @@
 -- bytes above the low sixteen bits and its code point in them. `proofs/Meaning` and `proofs/TableRules` tie it to the
 -- definitions of `Read`, `Write` and `Characters`.
 use Rattle.std.specs.Prelude.{ℕ, suc, ◌+◌, ◌*◌, ◌-◌, ◌/◌, ◌%◌, cond, List, [], ◌∷◌, ◌++◌, map, eqb, ltb, get_or, replicate}
-use Rattle.std.proofs.Math.Option.{Option, none, some}
+use Rattle.std.specs.Prelude.{Option, None, Some}
 use Rattle.code.specs.Characters.{standard, symbols, special, spanish, french, portuguese, german}
 use Rattle.code.specs.Control.{command_at, tab_of}
 use Rattle.code.specs.Letter.{letter_at}
@@ -75,17 +75,17 @@ control_at i =
     (cond (ltb i 96) (control.Command (command_at (i - 80))) (control.Tab (tab_of (i - 95))))
 
 abbrev pub found_at : Option ℕ → Found
-found_at none = Absent
-found_at (some i) = At i
+found_at None = Absent
+found_at (Some i) = At i
 
 -- the row of 40 to 5F after each of the first bytes 10 to 17
 abbrev pub first_row_at : ℕ → ℕ
 first_row_at n = get_or (10 ∷ 0 ∷ 2 ∷ 11 ∷ 13 ∷ 4 ∷ 6 ∷ 8 ∷ []) n 0
 
 abbrev pub meaning_of : Option Control → Meaning
-meaning_of none = meant.Absent
-meaning_of (some c) = meant.Of c
+meaning_of None = meant.Absent
+meaning_of (Some c) = meant.Of c
 
 -- the tab of a second byte after 17
 abbrev pub tab_in : ℕ → Option Control
-tab_in b = cond (within 0x21 0x23 b) (some (control.Tab (tab_of (b - 0x20)))) none
+tab_in b = cond (within 0x21 0x23 b) (Some (control.Tab (tab_of (b - 0x20)))) None

@@ -3,7 +3,7 @@
 -- Assumes nothing.
 use mathlib.Core.Bool.{true, false}
 use mathlib.Core.List.{[], ◌∷◌, map}
-use mathlib.Core.Option.{none, some}
+use Rattle.std.specs.Prelude.{None, Some}
 use mathlib.Core.Path.{◌≡◌, refl}
 use Prim.Native.Nat.{ℕ}
 use lib.Count.{ones, ones_in}
@@ -60,7 +60,7 @@ pub refused_6 : (from_value (pos 0) ≡ refused 6) × (from_value (pos 5) ≡ re
 refused_6 = (refl, refl)
 
 -- the rows of a window
-pub rows_of_modes : map rollup_rows (PopOn ∷ PaintOn ∷ RollUp2 ∷ RollUp3 ∷ RollUp4 ∷ []) ≡ none ∷ none ∷ some 2 ∷ some 3 ∷ some 4 ∷ []
+pub rows_of_modes : map rollup_rows (PopOn ∷ PaintOn ∷ RollUp2 ∷ RollUp3 ∷ RollUp4 ∷ []) ≡ None ∷ None ∷ Some 2 ∷ Some 3 ∷ Some 4 ∷ []
 rows_of_modes = refl
 
 pub modes_that_roll_up : map is_rollup (PopOn ∷ PaintOn ∷ RollUp2 ∷ RollUp3 ∷ RollUp4 ∷ []) ≡ false ∷ false ∷ true ∷ true ∷ true ∷ []

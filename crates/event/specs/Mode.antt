@@ -2,7 +2,7 @@
 -- pop-on, resume direct captioning paint-on, and the three roll-up commands windows of two, three and four rows. End of
 -- caption puts a receiver into pop-on too; that it begins no mode here follows the crate.
 use Rattle.std.specs.Prelude.{ℕ, Bool, true, false}
-use Rattle.std.proofs.Math.Option.{Option, none, some}
+use Rattle.std.specs.Prelude.{Option, None, Some}
 use Rattle.code.specs.declared.control.Command.{Command}
 use Rattle.code.specs.declared.control.Command.TheVariants as command
 use Rattle.event.specs.declared.mode.FromCommand.{FromCommand}
@@ -20,42 +20,42 @@ command_of RollUp3 = command.RollUp3
 command_of RollUp4 = command.RollUp4
 
 unfoldable pub mode_of : Command → Option Mode
-mode_of command.ResumeCaptionLoading = some PopOn
-mode_of command.Backspace = none
-mode_of command.AlarmOff = none
-mode_of command.AlarmOn = none
-mode_of command.DeleteToEndOfRow = none
-mode_of command.RollUp2 = some RollUp2
-mode_of command.RollUp3 = some RollUp3
-mode_of command.RollUp4 = some RollUp4
-mode_of command.FlashOn = none
-mode_of command.ResumeDirectionCaptioning = some PaintOn
-mode_of command.TextRestart = none
-mode_of command.ResumeTextDisplay = none
-mode_of command.EraseDisplayedMemory = none
-mode_of command.CarriageReturn = none
-mode_of command.EraseNonDisplayedMemory = none
-mode_of command.EndOfCaption = none
+mode_of command.ResumeCaptionLoading = Some PopOn
+mode_of command.Backspace = None
+mode_of command.AlarmOff = None
+mode_of command.AlarmOn = None
+mode_of command.DeleteToEndOfRow = None
+mode_of command.RollUp2 = Some RollUp2
+mode_of command.RollUp3 = Some RollUp3
+mode_of command.RollUp4 = Some RollUp4
+mode_of command.FlashOn = None
+mode_of command.ResumeDirectionCaptioning = Some PaintOn
+mode_of command.TextRestart = None
+mode_of command.ResumeTextDisplay = None
+mode_of command.EraseDisplayedMemory = None
+mode_of command.CarriageReturn = None
+mode_of command.EraseNonDisplayedMemory = None
+mode_of command.EndOfCaption = None
 
 abbrev pub from_command_outcome : FromCommand → Option Mode
-from_command_outcome (from.Begins m) = some m
-from_command_outcome from.Absent = none
+from_command_outcome (from.Begins m) = Some m
+from_command_outcome from.Absent = None
 
 abbrev pub rollup_rows : Mode → Option ℕ
-rollup_rows PopOn = none
-rollup_rows PaintOn = none
-rollup_rows RollUp2 = some 2
-rollup_rows RollUp3 = some 3
-rollup_rows RollUp4 = some 4
+rollup_rows PopOn = None
+rollup_rows PaintOn = None
+rollup_rows RollUp2 = Some 2
+rollup_rows RollUp3 = Some 3
+rollup_rows RollUp4 = Some 4
 
 abbrev pub rollup_rows_outcome : RollupRows → Option ℕ
-rollup_rows_outcome (rows.Rows n) = some n
-rollup_rows_outcome rows.Absent = none
+rollup_rows_outcome (rows.Rows n) = Some n
+rollup_rows_outcome rows.Absent = None
 
 -- a mode is a roll-up mode where it has rows
 abbrev pub has_rows : Option ℕ → Bool
-has_rows (some n) = true
-has_rows none = false
+has_rows (Some n) = true
+has_rows None = false
 
 abbrev pub is_rollup : Mode → Bool
 is_rollup m = has_rows (rollup_rows m)

@@ -5,7 +5,7 @@ use borrow.Author.Tests.{not-true}
 use lib.ListN.{replicate}
 use mathlib.Core.Bool.{Bool, ◌&&◌, false, not, true, true≢false}
 use mathlib.Core.List.{List, [], ◌∷◌, map}
-use mathlib.Core.Option.{none}
+use Rattle.std.specs.Prelude.{None}
 use mathlib.Core.Path.{◌≡◌, refl, ap, sym, ◌∙◌}
 use native.Mathlib.Omega.{arith}
 use Rattle.code.proofs.Agree.{agree}
@@ -91,10 +91,10 @@ copies_as_the_receiver s p (suc n) odd command =
 
 -- The receiver's laws on repeats: the odd copies act, or the even ones where the command is the last pair.
 module _ (s : Reader) (p : Pair) (c : ControlCode) (command : IsCommand p c) (odd : is_odd_pair p ≡ true) (first_byte_lem : is_command_pair p ≡ true) (n : ℕ) where
-  pub odd_copies_act : is_last p s.captions.last_data ≡ false → answers s (replicate n p) ≡ map reported (in_turn n (answer (event_of c)) (answer none))
+  pub odd_copies_act : is_last p s.captions.last_data ≡ false → answers s (replicate n p) ≡ map reported (in_turn n (answer (event_of c)) (answer None))
   odd_copies_act another =
       copies_as_the_receiver s p n odd first_byte_lem ∙ ap (map reported) (copies.odd_copies_act p c command n s.captions another)
 
-  pub even_copies_act : is_last p s.captions.last_data ≡ true → answers s (replicate n p) ≡ map reported (in_turn n (answer none) (answer (event_of c)))
+  pub even_copies_act : is_last p s.captions.last_data ≡ true → answers s (replicate n p) ≡ map reported (in_turn n (answer None) (answer (event_of c)))
   even_copies_act same =
       copies_as_the_receiver s p n odd first_byte_lem ∙ ap (map reported) (copies.even_copies_act p c command n s.captions same)

@@ -6,7 +6,7 @@ use borrow.Author.Tests.{not-true}
 use mathlib.Core.Bool.{Bool, ◌&&◌, false, not, true, true≢false}
 use mathlib.Core.List.{List, [], ◌∷◌}
 use mathlib.Core.Logic.{◌⊎◌, inl, inr}
-use mathlib.Core.Option.{Option, none, some}
+use Rattle.std.specs.Prelude.{Option, None, Some}
 use mathlib.Core.Path.{◌≡◌, refl, ap, ap₂, sym, ◌∙◌}
 use native.Mathlib.Omega.{arith}
 use Rattle.code.proofs.Agree.{agree}
@@ -48,16 +48,16 @@ is_received p is =
 abbrev pub IsCaption : Reader → Pair → Type 0
 IsCaption s p = Is part.Command p ⊎ (Is part.Other p × (captions_run s.running ≡ true))
 
-no_event : (e : Cea608) → ◌≡◌ {A = Option Cea608} none (some e) → ⊥
+no_event : (e : Cea608) → ◌≡◌ {A = Option Cea608} None (Some e) → ⊥
 no_event e same_event = let z : ◌≡◌ {A = ℕ} 0 1 = cc in absurd (omega arith)
 
-heard_event : (o : Outcome (Option Cea608)) (e : Cea608) → reported o ≡ answer (event e) → o ≡ answer (some e)
-heard_event (answer none) e x = absurd (no_event e (ap given_event x))
-heard_event (answer (some y)) e x = ap answer (ap given_event x)
+heard_event : (o : Outcome (Option Cea608)) (e : Cea608) → reported o ≡ answer (event e) → o ≡ answer (Some e)
+heard_event (answer None) e x = absurd (no_event e (ap given_event x))
+heard_event (answer (Some y)) e x = ap answer (ap given_event x)
 heard_event (refused n) e x = absurd (clash (sym x))
 
 module _ (s : Reader) (p : Pair) (e : Cea608) where
-  event_way : (r : Read) → Way s p r → r.0 ≡ answer (event e) → IsCaption s p × ((heard_by s p).0 ≡ answer (some e))
+  event_way : (r : Read) → Way s p r → r.0 ≡ answer (event e) → IsCaption s p × ((heard_by s p).0 ≡ answer (Some e))
   event_way _ (way.corrupted even) x = absurd (clash (sym x))
   event_way _ (way.acts is) x = (inl is, heard_event (heard_by s p).0 e x)
   event_way _ (way.is_text_lem is runs) x = (inr (is, ap captions_run runs), heard_event (heard_by s p).0 e x)
@@ -72,7 +72,7 @@ module _ (s : Reader) (p : Pair) (e : Cea608) where
   event_way _ (way.fills c k is runs there room) x = absurd (no_event e (ap given_event x))
   event_way _ (way.is_too_long c k is runs there full) x = absurd (clash (sym x))
 
-  pub an_event_is_of_a_caption : (read s p).0 ≡ answer (event e) → IsCaption s p × ((heard_by s p).0 ≡ answer (some e))
+  pub an_event_is_of_a_caption : (read s p).0 ≡ answer (event e) → IsCaption s p × ((heard_by s p).0 ≡ answer (Some e))
   an_event_is_of_a_caption = event_way (read s p) (way_of s p)
 
 -- no event, and captions do not run

@@ -12,8 +12,8 @@ use Rattle.extended.specs.declared.part.Part.TheVariants as part
 
 -- a byte that is none of 00 to 0F
 pub from_ten : (a : ℕ) → NoKey a 0x10 → 0x10 ≤ a
-from_ten a none =
-    let above : a < 0x10 → ⊥ = λ (less : a < 0x10). let at : a ≡ 0x10 = last_key a 0x10 (omega arith) none in omega arith in
+from_ten a None =
+    let above : a < 0x10 → ⊥ = λ (less : a < 0x10). let at : a ≡ 0x10 = last_key a 0x10 (omega arith) None in omega arith in
     omega arith
 
 -- 10 to 1F is a command, and what is above is text or contents

@@ -4,7 +4,7 @@
 use Prim.Native.Nat.{ℕ, ◌≤◌, min}
 use lib.ListN.{length, length-take}
 use mathlib.Core.Bool.{Bool, cond, false, true, true≢false}
-use mathlib.Core.Option.{Option, none, some}
+use Rattle.std.specs.Prelude.{Option, None, Some}
 use mathlib.Core.Path.{◌≡◌, refl, ap, sym, subst}
 use native.Mathlib.Omega.{arith}
 use Rattle.code.specs.Outcome.{answer}
@@ -77,8 +77,8 @@ pub what_a_pair_leaves : (s : ExtendedState) (p : Pair) → LeavesRecord s (step
 what_a_pair_leaves s p = by_parity s p (is_odd_pair p) refl
 
 few_without : (x : Option (Class × Packet)) → is_some x ≡ false → length (contents_in x) ≤ most_contents
-few_without none e = omega arith
-few_without (some k) e = absurd (true≢false e)
+few_without None e = omega arith
+few_without (Some k) e = absurd (true≢false e)
 
 few_in : (s : ExtendedState) (r : Step) → LeavesRecord s r → length (reported_bytes r.0) ≤ most_contents
 few_in s _ (no_packet o next taken other) = few_without (given_packet o) other

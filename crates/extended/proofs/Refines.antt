@@ -8,7 +8,7 @@ use lib.Dec.{leb}
 use lib.ListN.{length, length-append, length-set, set}
 use mathlib.Core.Bool.{Bool, cond, false, true}
 use mathlib.Core.List.{List, [], ◌++◌, ◌∷◌}
-use mathlib.Core.Option.{Option, none, some}
+use Rattle.std.specs.Prelude.{Option, None, Some}
 use mathlib.Core.Path.{◌≡◌, refl, ap, ap₂, fun_ext, sym, subst, ◌∙◌}
 use native.Mathlib.Omega.{arith}
 use Rattle.code.specs.Outcome.{Outcome, answer, refused}
@@ -70,8 +70,8 @@ continued_reads s r c t =
     by_test (is_of t (packet_at s.packets c)) (is_type t (kept_packets s.packets c)) _ _ (same_type t (packet_at s.packets c).packet_type (packet_at s.packets c).contents)
 
 -- a packet that is gone
-without : (s : ExtendedState) (r : Cea608State) (c : Class) → length s.packets ≡ 7 → reader_of (set_packet (set_captions s r) c absent_packet) ≡ with_packet (with_captions (reader_of s) r) c none
-without s r c seven = set_keeps (set_captions s r) c absent_packet none seven refl
+without : (s : ExtendedState) (r : Cea608State) (c : Class) → length s.packets ≡ 7 → reader_of (set_packet (set_captions s r) c absent_packet) ≡ with_packet (with_captions (reader_of s) r) c None
+without s r c seven = set_keeps (set_captions s r) c absent_packet None seven refl
 
 finished_reads : (s : ExtendedState) (r : Cea608State) (c : Class) (x : PacketType) (k : Contents) (sum : ℕ) → length s.packets ≡ 7 → read_by (finished_state s r c x k sum) ≡ finished (reader_of s) r c (packet_for x k) sum
 finished_reads s r c packet_type_is.Absent k sum seven = refl
@@ -86,15 +86,15 @@ ended_reads s r (running.Extended c) sum seven =
     finished_reads s r c (packet_at s.packets c).packet_type (packet_at s.packets c).contents sum seven
 
 -- a packet with more contents
-with_more : (s : ExtendedState) (r : Cea608State) (c : Class) (t : ℕ) (k : Contents) (bytes : List ℕ) → length s.packets ≡ 7 → Kept k (contents_of k) → length (contents_of k ++ bytes) ≤ most_contents → reader_of (set_packet (set_captions s r) c (record { packet_type = packet_type_is.Known t; contents = added_all k bytes })) ≡ with_packet (with_captions (reader_of s) r) c (some (record { packet_type = t; contents = contents_of k ++ bytes }))
+with_more : (s : ExtendedState) (r : Cea608State) (c : Class) (t : ℕ) (k : Contents) (bytes : List ℕ) → length s.packets ≡ 7 → Kept k (contents_of k) → length (contents_of k ++ bytes) ≤ most_contents → reader_of (set_packet (set_captions s r) c (record { packet_type = packet_type_is.Known t; contents = added_all k bytes })) ≡ with_packet (with_captions (reader_of s) r) c (Some (record { packet_type = t; contents = contents_of k ++ bytes }))
 with_more s r c t k bytes seven kept fits =
-    set_keeps (set_captions s r) c (record { packet_type = packet_type_is.Known t; contents = added_all k bytes }) (some (record { packet_type = t; contents = contents_of k ++ bytes })) seven
-    (ap (λ (xs : List ℕ). some (record { packet_type = t; contents = xs })) (cut_again (added_all k bytes) ∙ (more_kept k (contents_of k) bytes kept fits).same))
+    set_keeps (set_captions s r) c (record { packet_type = packet_type_is.Known t; contents = added_all k bytes }) (Some (record { packet_type = t; contents = contents_of k ++ bytes })) seven
+    (ap (λ (xs : List ℕ). Some (record { packet_type = t; contents = xs })) (cut_again (added_all k bytes) ∙ (more_kept k (contents_of k) bytes kept fits).same))
 
 abbrev filled_to : ExtendedState → Cea608State → Class → ℕ → Contents → List ℕ → Step
 filled_to s r c t k bytes = (answer nothing, no_contents, set_packet (set_captions s r) c (record { packet_type = packet_type_is.Known t; contents = added_all k bytes }))
 
-room_reads : (s : ExtendedState) (r : Cea608State) (c : Class) (t : ℕ) (k : Contents) (bytes : List ℕ) (room : Bool) → length s.packets ≡ 7 → Kept k (contents_of k) → leb (length (contents_of k ++ bytes)) most_contents ≡ room → read_by (cond room (filled_to s r c t k bytes) (dropped_state 14 s c)) ≡ cond room (answer nothing, with_packet (with_captions (reader_of s) r) c (some (record { packet_type = t; contents = contents_of k ++ bytes }))) (refused 14, with_packet (reader_of s) c none)
+room_reads : (s : ExtendedState) (r : Cea608State) (c : Class) (t : ℕ) (k : Contents) (bytes : List ℕ) (room : Bool) → length s.packets ≡ 7 → Kept k (contents_of k) → leb (length (contents_of k ++ bytes)) most_contents ≡ room → read_by (cond room (filled_to s r c t k bytes) (dropped_state 14 s c)) ≡ cond room (answer nothing, with_packet (with_captions (reader_of s) r) c (Some (record { packet_type = t; contents = contents_of k ++ bytes }))) (refused 14, with_packet (reader_of s) c None)
 room_reads s r c t k bytes true seven kept room =
     ap (λ (x : Reader). (answer nothing, x)) (with_more s r c t k bytes seven kept (leb-true (length (contents_of k ++ bytes)) most_contents room))
 room_reads s r c t k bytes false seven kept room = ap (λ (x : Reader). (refused 14, x)) (without s s.captions c seven)
@@ -116,7 +116,7 @@ other_reads s h (running.Extended c) a b whole =
 part_reads : (s : ExtendedState) (h : Stepped) (x : Part) (a b : ℕ) → Whole s → read_by (by_part_state s h x a b) ≡ by_part (reader_of s) h x a b
 part_reads s h part.Command a b whole = refl
 part_reads s h (part.Start c) a b whole =
-    ap (λ (x : Reader). (answer nothing, x)) (set_keeps _ c (begun b) (some (record { packet_type = b; contents = [] })) whole.seven refl)
+    ap (λ (x : Reader). (answer nothing, x)) (set_keeps _ c (begun b) (Some (record { packet_type = b; contents = [] })) whole.seven refl)
 part_reads s h (part.Continuation c) a b whole = continued_reads s h.1 c b
 part_reads s h part.End a b whole = ended_reads s h.1 s.running b whole.seven
 part_reads s h part.Other a b whole = other_reads s h s.running a b whole
@@ -205,7 +205,7 @@ answers_by_its_reader s t ps whole_s whole_t same =
     (reads_as_its_reader s ps whole_s).0 ∙ ap (λ (x : Reader). answers x ps) same ∙ sym (reads_as_its_reader t ps whole_t).0
 
 -- a fresh state keeps a fresh reader
-fresh_packets : (c : Class) → kept_packets fresh_state.packets c ≡ none
+fresh_packets : (c : Class) → kept_packets fresh_state.packets c ≡ None
 unfolding packet_at
 fresh_packets class.Current = refl
 fresh_packets class.Future = refl

@@ -4,7 +4,7 @@ use Prim.Native.Nat.{ℕ}
 use borrow.Author.Tests.{leb-false, lt-leb}
 use lib.ListN.{length}
 use mathlib.Core.Bool.{true≢false}
-use mathlib.Core.Option.{Option}
+use Rattle.std.specs.Prelude.{Option}
 use mathlib.Core.Path.{◌≡◌, refl, ap, subst, sym, ◌∙◌}
 use Rattle.code.proofs.OneAnswer.{clash}
 use Rattle.code.specs.Outcome.{Outcome, answer, refused}

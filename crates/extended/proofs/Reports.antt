@@ -6,7 +6,7 @@ use borrow.Author.Tests.{leb-false, leb-true, not-true}
 use lib.ListN.{length}
 use mathlib.Core.Bool.{Bool, cond, false, not, true, true≢false}
 use mathlib.Core.List.{List, [], ◌∷◌}
-use mathlib.Core.Option.{Option, none, some}
+use Rattle.std.specs.Prelude.{Option, None, Some}
 use mathlib.Core.Path.{◌≡◌, refl, ap, sym, subst, ◌∙◌}
 use native.Mathlib.Omega.{arith}
 use Rattle.code.proofs.Both.{both_true}
@@ -25,18 +25,18 @@ use Rattle.extended.specs.declared.part.Part.TheVariants as part
 use Rattle.extended.specs.declared.state.Running.TheVariants as running
 
 -- what the captions' receiver answers is no packet
-pub no_packet : (o : Outcome (Option Cea608)) → given_packet (reported o) ≡ none
-no_packet (answer none) = refl
-no_packet (answer (some e)) = refl
+pub no_packet : (o : Outcome (Option Cea608)) → given_packet (reported o) ≡ None
+no_packet (answer None) = refl
+no_packet (answer (Some e)) = refl
 no_packet (refused n) = refl
 
 -- what is there, or this
 abbrev pub or_else : {A : Type 0} → A → Option A → A
-or_else a none = a
-or_else a (some b) = b
+or_else a None = a
+or_else a (Some b) = b
 
 module _ (s : Reader) (p : Pair) (c : Class) (t : ℕ) (bs : List ℕ) where
-  not_this : (o : Outcome Report) → given_packet o ≡ none → o ≡ answer (packet c t bs) → ⊥
+  not_this : (o : Outcome Report) → given_packet o ≡ None → o ≡ answer (packet c t bs) → ⊥
   not_this o other e = true≢false (sym (ap (λ (x : Outcome Report). is_some (given_packet x)) e) ∙ ap is_some other)
 
   reported_by : (r : Read) → Way s p r → r.0 ≡ answer (packet c t bs) → WasOpen s p c t bs
@@ -64,14 +64,14 @@ module _ (s : Reader) (p : Pair) (c : Class) (t : ℕ) (bs : List ℕ) where
 
 module _ (c : Class) (s : Reader) (p : Pair) where
   -- the packet of the class once that of another, or its own, is replaced
-  dropped_or_not : (d : Class) (t : Bool) → same_class d c ≡ t → (d ≡ c → Becomes c s p none) → Becomes c s p (cond t none (s.packets c))
+  dropped_or_not : (d : Class) (t : Bool) → same_class d c ≡ t → (d ≡ c → Becomes c s p None) → Becomes c s p (cond t None (s.packets c))
   dropped_or_not d true e own = own (same_class_lem d c e)
   dropped_or_not d false e own = the_same
 
-  ends_its_own : (d : Class) (k : Packet) → Is part.End p → s.running ≡ running.Extended d → s.packets d ≡ some k → d ≡ c → Becomes c s p none
+  ends_its_own : (d : Class) (k : Packet) → Is part.End p → s.running ≡ running.Extended d → s.packets d ≡ Some k → d ≡ c → Becomes c s p None
   ends_its_own d k is runs there e = ended k is (runs ∙ ap running.Extended e) (ap s.packets (sym e) ∙ there)
 
-  begun_or_not : (d : Class) (t : Bool) (x : Packet) → same_class d c ≡ t → (d ≡ c → Becomes c s p (some x)) → Becomes c s p (cond t (some x) (s.packets c))
+  begun_or_not : (d : Class) (t : Bool) (x : Packet) → same_class d c ≡ t → (d ≡ c → Becomes c s p (Some x)) → Becomes c s p (cond t (Some x) (s.packets c))
   begun_or_not d true x e own = own (same_class_lem d c e)
   begun_or_not d false x e own = the_same
 
@@ -100,12 +100,12 @@ module _ (c : Class) (s : Reader) (p : Pair) where
 
 -- each packet has at most 32 content bytes
 abbrev pub AtMost32 : Reader → Type 0
-AtMost32 s = (c : Class) (k : Packet) → s.packets c ≡ some k → length k.contents ≤ most_contents
+AtMost32 s = (c : Class) (k : Packet) → s.packets c ≡ Some k → length k.contents ≤ most_contents
 
-no_some : (k : Packet) → ◌≡◌ {A = Option Packet} none (some k) → ⊥
+no_some : (k : Packet) → ◌≡◌ {A = Option Packet} None (Some k) → ⊥
 no_some k e = true≢false (sym (ap is_some e))
 
-still_at_most : (s : Reader) (p : Pair) (c : Class) → AtMost32 s → (x : Option Packet) → Becomes c s p x → (k : Packet) → x ≡ some k → length k.contents ≤ most_contents
+still_at_most : (s : Reader) (p : Pair) (c : Class) → AtMost32 s → (x : Option Packet) → Becomes c s p x → (k : Packet) → x ≡ Some k → length k.contents ≤ most_contents
 still_at_most s p c before _ the_same k e = before c k e
 still_at_most s p c before _ (begun is) k e =
     subst (λ (y : Packet). length y.contents ≤ most_contents) (ap (or_else k) e) (omega arith)
@@ -122,11 +122,11 @@ from_there s [] before = before
 from_there s (p ∷ ps) before = from_there (read s p).1 ps (at_most_32_still s p before)
 
 pub at_most_32 : (ps : List Pair) → AtMost32 (after fresh ps)
-at_most_32 ps = from_there fresh ps (λ (c : Class) (k : Packet) (e : ◌≡◌ {A = Option Packet} none (some k)). absurd (no_some k e))
+at_most_32 ps = from_there fresh ps (λ (c : Class) (k : Packet) (e : ◌≡◌ {A = Option Packet} None (Some k)). absurd (no_some k e))
 
 -- A packet that is not there is not reported, and stays away, until its class is started.
 module _ (c : Class) where
-  still_none : (s : Reader) (p : Pair) → s.packets c ≡ none → is_own_start c p ≡ false → (x : Option Packet) → Becomes c s p x → x ≡ none
+  still_none : (s : Reader) (p : Pair) → s.packets c ≡ None → is_own_start c p ≡ false → (x : Option Packet) → Becomes c s p x → x ≡ None
   still_none s p gone no_start _ the_same = gone
   still_none s p gone no_start _ (begun is) =
       absurd (true≢false (sym (rw (is.odd, is.part, its_own_class c) refl) ∙ no_start))
@@ -134,19 +134,19 @@ module _ (c : Class) where
   still_none s p gone no_start _ (ended k is runs there) = refl
   still_none s p gone no_start _ (too_long k is runs there more_bytes) = refl
 
-  not_its_own : (s : Reader) (p : Pair) (d : Class) (t : ℕ) (bs : List ℕ) → s.packets c ≡ none → (read s p).0 ≡ answer (packet d t bs) → (same : Bool) → same_class d c ≡ same → ◌≡◌ {A = ℕ} (cond same 1 0) 0
+  not_its_own : (s : Reader) (p : Pair) (d : Class) (t : ℕ) (bs : List ℕ) → s.packets c ≡ None → (read s p).0 ≡ answer (packet d t bs) → (same : Bool) → same_class d c ≡ same → ◌≡◌ {A = ℕ} (cond same 1 0) 0
   not_its_own s p d t bs gone e true own =
       let was = reported_was_open s p d t bs e in
       absurd (no_some _ (sym gone ∙ ap s.packets (sym (same_class_lem d c own)) ∙ was.held))
   not_its_own s p d t bs gone e false other = refl
 
-  none_reported : (s : Reader) (p : Pair) → s.packets c ≡ none → (o : Outcome Report) → (read s p).0 ≡ o → reports c o ≡ 0
+  none_reported : (s : Reader) (p : Pair) → s.packets c ≡ None → (o : Outcome Report) → (read s p).0 ≡ o → reports c o ≡ 0
   none_reported s p gone (answer nothing) e = refl
   none_reported s p gone (answer (event x)) e = refl
   none_reported s p gone (answer (packet d t bs)) e = not_its_own s p d t bs gone e (same_class d c) refl
   none_reported s p gone (refused n) e = refl
 
-  pub not_before_a_start : (s : Reader) (ps : List Pair) → s.packets c ≡ none → no_own_start c ps ≡ true → times_reported c (answers s ps) ≡ 0
+  pub not_before_a_start : (s : Reader) (ps : List Pair) → s.packets c ≡ None → no_own_start c ps ≡ true → times_reported c (answers s ps) ≡ 0
   not_before_a_start s [] gone no_starts = refl
   not_before_a_start s (p ∷ ps) gone no_starts =
       let both = both_true (not (is_own_start c p)) (no_own_start c ps) no_starts in

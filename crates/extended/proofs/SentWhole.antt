@@ -6,7 +6,7 @@ use borrow.Author.Tests.{le-leb, not-true}
 use lib.ListN.{length, length-append}
 use mathlib.Core.Bool.{Bool, ◌&&◌, cond, false, not, true, true≢false}
 use mathlib.Core.List.{List, [], ◌++◌, ◌∷◌, append_assoc, append-nil}
-use mathlib.Core.Option.{Option, none, some}
+use Rattle.std.specs.Prelude.{Option, None, Some}
 use mathlib.Core.Path.{◌≡◌, refl, ap, sym, subst, ◌∙◌}
 use native.Mathlib.Omega.{arith}
 use Rattle.code.proofs.Both.{both_true}
@@ -27,7 +27,7 @@ use Rattle.extended.specs.declared.state.Running.TheVariants as running
 use Rattle.extended.specs.declared.state.Running.{Running}
 
 abbrev pub holding : ℕ → List ℕ → Option Packet
-holding t bs = some (record { packet_type = t; contents = bs })
+holding t bs = Some (record { packet_type = t; contents = bs })
 
 no_report : (c : Class) (o : Outcome (Option Cea608)) → reports c (reported o) ≡ 0
 no_report c o = ap (count_in c) (no_packet o)
@@ -61,26 +61,26 @@ module _ (c : Class) (t : ℕ) (s : Reader) (p : Pair) (bs : List ℕ) (held : s
   brings_nothing : (d : Class) → Is part.Other p → s.running ≡ running.Extended d → same_class d c ≡ false → brings c s p ≡ []
   brings_nothing d is runs_d apart = brings_its_bytes d is runs_d ∙ rw apart refl
 
-  own_packet : (d : Class) (k : Packet) → same_class d c ≡ true → s.packets d ≡ some k → k ≡ record { packet_type = t; contents = bs }
+  own_packet : (d : Class) (k : Packet) → same_class d c ≡ true → s.packets d ≡ Some k → k ≡ record { packet_type = t; contents = bs }
   own_packet d k own there =
       ap (or_else k) (sym there ∙ ap s.packets (same_class_lem d c own) ∙ held)
 
-  passed_over : (d : Class) (u : Bool) → same_class d c ≡ u → Is part.Other p → s.running ≡ running.Extended d → s.packets d ≡ none → brings c s p ≡ []
+  passed_over : (d : Class) (u : Bool) → same_class d c ≡ u → Is part.Other p → s.running ≡ running.Extended d → s.packets d ≡ None → brings c s p ≡ []
   passed_over d true own is runs_d gone =
-      let there : ◌≡◌ {A = Option Packet} none (holding t bs) = sym gone ∙ ap s.packets (same_class_lem d c own) ∙ held in
+      let there : ◌≡◌ {A = Option Packet} None (holding t bs) = sym gone ∙ ap s.packets (same_class_lem d c own) ∙ held in
       let z : ◌≡◌ {A = ℕ} 0 1 = cc in
       absurd (omega arith)
   passed_over d false apart is runs_d gone = brings_nothing d is runs_d apart
 
-  more_contents : (d : Class) (k : Packet) (u : Bool) → same_class d c ≡ u → Is part.Other p → s.running ≡ running.Extended d → s.packets d ≡ some k → cond u (some (with_contents k p)) (s.packets c) ≡ holding t (bs ++ brings c s p)
+  more_contents : (d : Class) (k : Packet) (u : Bool) → same_class d c ≡ u → Is part.Other p → s.running ≡ running.Extended d → s.packets d ≡ Some k → cond u (Some (with_contents k p)) (s.packets c) ≡ holding t (bs ++ brings c s p)
   more_contents d k true own is runs_d there =
       let k_is = own_packet d k own there in
       let bytes : brings c s p ≡ content_bytes (first p) (second p) = brings_its_bytes d is runs_d ∙ rw own refl in
-      ap (λ (j : Packet). some (with_contents j p)) k_is ∙ ap (λ (xs : List ℕ). holding t (bs ++ xs)) (sym bytes)
+      ap (λ (j : Packet). Some (with_contents j p)) k_is ∙ ap (λ (xs : List ℕ). holding t (bs ++ xs)) (sym bytes)
   more_contents d k false apart is runs_d there =
       same_contents (s.packets c) (brings_nothing d is runs_d apart) held
 
-  not_too_long : (d : Class) (k : Packet) (u : Bool) → same_class d c ≡ u → Is part.Other p → s.running ≡ running.Extended d → s.packets d ≡ some k → fits k p ≡ false → u ≡ false
+  not_too_long : (d : Class) (k : Packet) (u : Bool) → same_class d c ≡ u → Is part.Other p → s.running ≡ running.Extended d → s.packets d ≡ Some k → fits k p ≡ false → u ≡ false
   not_too_long d k true own is runs_d there full =
       let k_is = own_packet d k own there in
       let bytes : brings c s p ≡ content_bytes (first p) (second p) = brings_its_bytes d is runs_d ∙ rw own refl in
@@ -106,14 +106,14 @@ module _ (c : Class) (t : ℕ) (s : Reader) (p : Pair) (bs : List ℕ) (held : s
   by_way r (ends_without_packet d is runs_d there) = as_it_was r (rw (is.odd, is.part) refl) held refl
   by_way r (finishes d k is runs_d there right) =
       let apart = apart_end d is runs_d in
-      as_it_was r (rw (is.odd, is.part) refl) (elsewhere d none apart) (other_report c d k apart)
+      as_it_was r (rw (is.odd, is.part) refl) (elsewhere d None apart) (other_report c d k apart)
   by_way r (has_wrong_sum d k is runs_d there wrong) =
-      as_it_was r (rw (is.odd, is.part) refl) (elsewhere d none (apart_end d is runs_d)) refl
+      as_it_was r (rw (is.odd, is.part) refl) (elsewhere d None (apart_end d is runs_d)) refl
   by_way r (is_passed_over d is runs_d there) = as_it_was r (passed_over d (same_class d c) refl is runs_d there) held refl
   by_way r (fills d k is runs_d there room) = (more_contents d k (same_class d c) refl is runs_d there, refl)
   by_way r (is_too_long d k is runs_d there full) =
       let apart = not_too_long d k (same_class d c) refl is runs_d there full in
-      as_it_was r (brings_nothing d is runs_d apart) (elsewhere d none apart) refl
+      as_it_was r (brings_nothing d is runs_d apart) (elsewhere d None apart) refl
 
   still_held : Still c t (bs ++ brings c s p) (read s p)
   still_held = by_way (read s p) (way_of s p)
@@ -142,7 +142,7 @@ class_runs c running.Captions e = absurd (true≢false (sym e))
 class_runs c (running.Extended d) e = ap running.Extended (same_class_lem d c e)
 
 -- the end of a packet that is open
-at_its_end : (c : Class) (t : ℕ) (bs : List ℕ) (s : Reader) (q : Pair) → s.packets c ≡ holding t bs → s.running ≡ running.Extended c → Is part.End q → is_right_sum c t bs (second q) ≡ true → read s q ≡ (answer (packet c t bs), with_packet (with_captions s (heard_by s q).1) c none)
+at_its_end : (c : Class) (t : ℕ) (bs : List ℕ) (s : Reader) (q : Pair) → s.packets c ≡ holding t bs → s.running ≡ running.Extended c → Is part.End q → is_right_sum c t bs (second q) ≡ true → read s q ≡ (answer (packet c t bs), with_packet (with_captions s (heard_by s q).1) c None)
 at_its_end c t bs s q held runs_c is right =
     read_by_part s q part.End is
     ∙ ap (λ (r : Running). ended s (heard_by s q).1 r (second q)) runs_c

@@ -6,7 +6,7 @@ use lib.Dec.{leb}
 use lib.ListN.{length}
 use mathlib.Core.Bool.{Bool, true, false}
 use mathlib.Core.List.{◌++◌}
-use mathlib.Core.Option.{Option, none, some}
+use Rattle.std.specs.Prelude.{Option, None, Some}
 use mathlib.Core.Path.{◌≡◌, refl, sym, subst}
 use Rattle.code.specs.Outcome.{Outcome, answer, refused}
 use Rattle.code.specs.Read.{is_odd_pair}
@@ -31,8 +31,8 @@ heard_by s p = receiver.step s.captions p
 
 -- what the captions' receiver answers to a pair that is received is no refusal
 not_refused_lem : (o : Outcome (Option Cea608)) → ((n : ℕ) → o ≡ refused n → ⊥) → is_refused (reported o) ≡ false
-not_refused_lem (answer none) other = refl
-not_refused_lem (answer (some e)) other = refl
+not_refused_lem (answer None) other = refl
+not_refused_lem (answer (Some e)) other = refl
 not_refused_lem (refused n) other = absurd (other n refl)
 
 pub heard_not_refused : (s : Reader) (p : Pair) → is_odd_pair p ≡ true → is_refused (reported (heard_by s p).0) ≡ false
@@ -63,37 +63,37 @@ pub data Way (s : Reader) (p : Pair) : Read → Type 0 where
   continues : (c : Class) → Is (part.Continuation c) p → is_type (second p) (s.packets c) ≡ true → Way s p (answer nothing, opened s (heard_by s p).1 c)
   no_such_packet : (c : Class) → Is (part.Continuation c) p → is_type (second p) (s.packets c) ≡ false → Way s p (refused 13, s)
   ends_in_captions : Is part.End p → s.running ≡ running.Captions → Way s p (refused 13, s)
-  ends_without_packet : (c : Class) → Is part.End p → s.running ≡ running.Extended c → s.packets c ≡ none → Way s p (refused 13, s)
-  finishes : (c : Class) (k : Packet) → Is part.End p → s.running ≡ running.Extended c → s.packets c ≡ some k → is_right_sum c k.packet_type k.contents (second p) ≡ true → Way s p (answer (packet c k.packet_type k.contents), with_packet (with_captions s (heard_by s p).1) c none)
-  has_wrong_sum : (c : Class) (k : Packet) → Is part.End p → s.running ≡ running.Extended c → s.packets c ≡ some k → is_right_sum c k.packet_type k.contents (second p) ≡ false → Way s p (dropped 15 s c)
-  is_passed_over : (c : Class) → Is part.Other p → s.running ≡ running.Extended c → s.packets c ≡ none → Way s p (answer nothing, with_captions s (heard_by s p).1)
-  fills : (c : Class) (k : Packet) → Is part.Other p → s.running ≡ running.Extended c → s.packets c ≡ some k → fits k p ≡ true → Way s p (answer nothing, with_packet (with_captions s (heard_by s p).1) c (some (with_contents k p)))
-  is_too_long : (c : Class) (k : Packet) → Is part.Other p → s.running ≡ running.Extended c → s.packets c ≡ some k → fits k p ≡ false → Way s p (dropped 14 s c)
+  ends_without_packet : (c : Class) → Is part.End p → s.running ≡ running.Extended c → s.packets c ≡ None → Way s p (refused 13, s)
+  finishes : (c : Class) (k : Packet) → Is part.End p → s.running ≡ running.Extended c → s.packets c ≡ Some k → is_right_sum c k.packet_type k.contents (second p) ≡ true → Way s p (answer (packet c k.packet_type k.contents), with_packet (with_captions s (heard_by s p).1) c None)
+  has_wrong_sum : (c : Class) (k : Packet) → Is part.End p → s.running ≡ running.Extended c → s.packets c ≡ Some k → is_right_sum c k.packet_type k.contents (second p) ≡ false → Way s p (dropped 15 s c)
+  is_passed_over : (c : Class) → Is part.Other p → s.running ≡ running.Extended c → s.packets c ≡ None → Way s p (answer nothing, with_captions s (heard_by s p).1)
+  fills : (c : Class) (k : Packet) → Is part.Other p → s.running ≡ running.Extended c → s.packets c ≡ Some k → fits k p ≡ true → Way s p (answer nothing, with_packet (with_captions s (heard_by s p).1) c (Some (with_contents k p)))
+  is_too_long : (c : Class) (k : Packet) → Is part.Other p → s.running ≡ running.Extended c → s.packets c ≡ Some k → fits k p ≡ false → Way s p (dropped 14 s c)
 
 module _ (s : Reader) (p : Pair) where
   continuation_way : (c : Class) (t : Bool) → Is (part.Continuation c) p → is_type (second p) (s.packets c) ≡ t → Way s p (continued s (heard_by s p).1 c (second p))
   continuation_way c true is e = rw e (continues c is e)
   continuation_way c false is e = rw e (no_such_packet c is e)
 
-  sum_way : (c : Class) (k : Packet) (right : Bool) → Is part.End p → s.running ≡ running.Extended c → s.packets c ≡ some k → is_right_sum c k.packet_type k.contents (second p) ≡ right → Way s p (finished s (heard_by s p).1 c (some k) (second p))
+  sum_way : (c : Class) (k : Packet) (right : Bool) → Is part.End p → s.running ≡ running.Extended c → s.packets c ≡ Some k → is_right_sum c k.packet_type k.contents (second p) ≡ right → Way s p (finished s (heard_by s p).1 c (Some k) (second p))
   sum_way c k true is runs there e = rw e (finishes c k is runs there e)
   sum_way c k false is runs there e = rw e (has_wrong_sum c k is runs there e)
 
   finish_way : (c : Class) (x : Option Packet) → Is part.End p → s.running ≡ running.Extended c → s.packets c ≡ x → Way s p (finished s (heard_by s p).1 c x (second p))
-  finish_way c none is runs there = ends_without_packet c is runs there
-  finish_way c (some k) is runs there = sum_way c k (is_right_sum c k.packet_type k.contents (second p)) is runs there refl
+  finish_way c None is runs there = ends_without_packet c is runs there
+  finish_way c (Some k) is runs there = sum_way c k (is_right_sum c k.packet_type k.contents (second p)) is runs there refl
 
   end_way : (r : Running) → Is part.End p → s.running ≡ r → Way s p (ended s (heard_by s p).1 r (second p))
   end_way running.Captions is runs = ends_in_captions is runs
   end_way (running.Extended c) is runs = finish_way c (s.packets c) is runs refl
 
-  room_way : (c : Class) (k : Packet) (room : Bool) → Is part.Other p → s.running ≡ running.Extended c → s.packets c ≡ some k → fits k p ≡ room → Way s p (filled s (heard_by s p).1 c (some k) (content_bytes (first p) (second p)))
+  room_way : (c : Class) (k : Packet) (room : Bool) → Is part.Other p → s.running ≡ running.Extended c → s.packets c ≡ Some k → fits k p ≡ room → Way s p (filled s (heard_by s p).1 c (Some k) (content_bytes (first p) (second p)))
   room_way c k true is runs there e = rw e (fills c k is runs there e)
   room_way c k false is runs there e = rw e (is_too_long c k is runs there e)
 
   fill_way : (c : Class) (x : Option Packet) → Is part.Other p → s.running ≡ running.Extended c → s.packets c ≡ x → Way s p (filled s (heard_by s p).1 c x (content_bytes (first p) (second p)))
-  fill_way c none is runs there = is_passed_over c is runs there
-  fill_way c (some k) is runs there = room_way c k (fits k p) is runs there refl
+  fill_way c None is runs there = is_passed_over c is runs there
+  fill_way c (Some k) is runs there = room_way c k (fits k p) is runs there refl
 
   other_way : (r : Running) → Is part.Other p → s.running ≡ r → Way s p (other s (heard_by s p) r (first p) (second p))
   other_way running.Captions is runs = is_text_lem is runs

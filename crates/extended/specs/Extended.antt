@@ -1,7 +1,7 @@
 -- Captions with the extended data between them, from CTA-608's rules on extended data as 02 has them (T-01), over a map from
 -- class to unfinished packet. What a caption pair does is the receiver's own step.
 use Rattle.std.specs.Prelude.{ℕ, eqb, leb, length, Bool, cond, false, List, [], ◌++◌}
-use Rattle.std.proofs.Math.Option.{Option, none, some}
+use Rattle.std.specs.Prelude.{Option, None, Some}
 use Rattle.code.specs.Outcome.{Outcome, answer, refused}
 use Rattle.code.specs.Parity.{stripped}
 use Rattle.code.specs.Read.{is_odd_pair}
@@ -46,7 +46,7 @@ with_running s x = record { captions = s.captions; running = x; packets = s.pack
 
 -- nothing was received: captions run, and there is no packet
 abbrev pub fresh : Reader
-fresh = record { captions = receiver.fresh; running = running.Captions; packets = λ (c : Class). none }
+fresh = record { captions = receiver.fresh; running = running.Captions; packets = λ (c : Class). None }
 
 -- what a pair reports, where it is not refused: a finished packet with its class, type and contents
 pub data Report : Type 0 where
@@ -58,8 +58,8 @@ abbrev pub Read : Type 0
 Read = Outcome Report × Reader
 
 abbrev pub reported : Outcome (Option Cea608) → Outcome Report
-reported (answer none) = answer nothing
-reported (answer (some e)) = answer (event e)
+reported (answer None) = answer nothing
+reported (answer (Some e)) = answer (event e)
 reported (refused n) = refused n
 
 -- A command acts as the receiver says, h. It interrupts what runs, and captions run after it.
@@ -72,26 +72,26 @@ opened s r c = with_running (with_captions s r) (running.Extended c)
 
 -- a start replaces the unfinished packet of its class
 abbrev pub started : Reader → Cea608State → Class → ℕ → Read
-started s r c t = (answer nothing, with_packet (opened s r c) c (some (record { packet_type = t; contents = [] })))
+started s r c t = (answer nothing, with_packet (opened s r c) c (Some (record { packet_type = t; contents = [] })))
 
 -- a continuation goes on with the packet of that class and type; 13: there is none, and nothing changes
 abbrev pub is_type : ℕ → Option Packet → Bool
-is_type t none = false
-is_type t (some k) = eqb k.packet_type t
+is_type t None = false
+is_type t (Some k) = eqb k.packet_type t
 
 abbrev pub continued : Reader → Cea608State → Class → ℕ → Read
 continued s r c t = cond (is_type t (s.packets c)) (answer nothing, opened s r c) (refused 13, s)
 
 -- 14 and 15 drop their packet, and change nothing else
 abbrev pub dropped : ℕ → Reader → Class → Read
-dropped n s c = (refused n, with_packet s c none)
+dropped n s c = (refused n, with_packet s c None)
 
 -- an end finishes the packet that is open; 13: none is, and nothing changes; 15: a wrong sum
 abbrev pub finished : Reader → Cea608State → Class → Option Packet → ℕ → Read
-finished s r c none sum = (refused 13, s)
-finished s r c (some k) sum =
+finished s r c None sum = (refused 13, s)
+finished s r c (Some k) sum =
     cond (is_right_sum c k.packet_type k.contents sum)
-    (answer (packet c k.packet_type k.contents), with_packet (with_captions s r) c none) (dropped 15 s c)
+    (answer (packet c k.packet_type k.contents), with_packet (with_captions s r) c None) (dropped 15 s c)
 
 abbrev pub ended : Reader → Cea608State → Running → ℕ → Read
 ended s r running.Captions sum = (refused 13, s)
@@ -100,10 +100,10 @@ ended s r (running.Extended c) sum = finished s r c (s.packets c) sum
 -- Contents of the packet that is open; 14: more than 32 bytes. Where there is none, after its end, 14 or 15, they are passed
 -- over.
 abbrev pub filled : Reader → Cea608State → Class → Option Packet → List ℕ → Read
-filled s r c none bytes = (answer nothing, with_captions s r)
-filled s r c (some k) bytes =
+filled s r c None bytes = (answer nothing, with_captions s r)
+filled s r c (Some k) bytes =
     cond (leb (length (k.contents ++ bytes)) most_contents)
-    (answer nothing, with_packet (with_captions s r) c (some (record { packet_type = k.packet_type; contents = k.contents ++ bytes })))
+    (answer nothing, with_packet (with_captions s r) c (Some (record { packet_type = k.packet_type; contents = k.contents ++ bytes })))
     (dropped 14 s c)
 
 -- Any other pair is caption text where captions run, and contents of the class that runs where they do not.

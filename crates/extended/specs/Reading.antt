@@ -1,6 +1,6 @@
 -- Reading a list of pairs, in the port's own words: the fold of what a pair does, and what the laws say of pairs and answers.
 use Rattle.std.specs.Prelude.{ℕ, Bool, ◌&&◌, cond, false, not, true, List, [], ◌∷◌, ◌≡◌}
-use Rattle.std.proofs.Math.Option.{Option, none, some}
+use Rattle.std.specs.Prelude.{Option, None, Some}
 use Rattle.code.specs.Outcome.{Outcome, answer, refused}
 use Rattle.code.specs.Parity.{stripped}
 use Rattle.code.specs.Range.{within}
@@ -52,14 +52,14 @@ none_is_command (p ∷ ps) = not (is_command_received p) && none_is_command ps
 
 -- the event that was given, if one was
 abbrev pub given_event : Outcome Report → Option Cea608
-given_event (answer nothing) = none
-given_event (answer (event e)) = some e
-given_event (answer (packet c t bs)) = none
-given_event (refused n) = none
+given_event (answer nothing) = None
+given_event (answer (event e)) = Some e
+given_event (answer (packet c t bs)) = None
+given_event (refused n) = None
 
 abbrev pub is_some : {A : Type 0} → Option A → Bool
-is_some none = false
-is_some (some a) = true
+is_some None = false
+is_some (Some a) = true
 
 abbrev pub is_event : Outcome Report → Bool
 is_event o = is_some (given_event o)

@@ -1,7 +1,7 @@
 -- When a pair is refused, by which number, and what it leaves, in the port's own words, for the laws. 1 and 13 leave everything as
 -- it was; 14 and 15 drop the packet of the class that runs, and leave the rest.
 use Rattle.std.specs.Prelude.{ℕ, ◌<◌, length, false, ◌++◌, ◌≡◌}
-use Rattle.std.proofs.Math.Option.{none, some}
+use Rattle.std.specs.Prelude.{None, Some}
 use Rattle.code.specs.Outcome.{Outcome, answer, refused}
 use Rattle.code.specs.Read.{is_odd_pair}
 use Rattle.code.specs.declared.pair.Pair.{Pair}
@@ -20,9 +20,9 @@ pub data Leaves (s : Reader) (p : Pair) : ℕ → Reader → Type 0 where
   invalid_parity : is_odd_pair p ≡ false → Leaves s p 1 s
   no_such_packet : (c : Class) → Is (part.Continuation c) p → is_type (second p) (s.packets c) ≡ false → Leaves s p 13 s
   end_in_captions : Is part.End p → s.running ≡ running.Captions → Leaves s p 13 s
-  end_of_no_packet : (c : Class) → Is part.End p → s.running ≡ running.Extended c → s.packets c ≡ none → Leaves s p 13 s
-  too_long : (c : Class) (k : Packet) → Is part.Other p → s.running ≡ running.Extended c → s.packets c ≡ some k → most_contents < length (k.contents ++ content_bytes (first p) (second p)) → Leaves s p 14 (with_packet s c none)
-  of_wrong_sum : (c : Class) (k : Packet) → Is part.End p → s.running ≡ running.Extended c → s.packets c ≡ some k → is_right_sum c k.packet_type k.contents (second p) ≡ false → Leaves s p 15 (with_packet s c none)
+  end_of_no_packet : (c : Class) → Is part.End p → s.running ≡ running.Extended c → s.packets c ≡ None → Leaves s p 13 s
+  too_long : (c : Class) (k : Packet) → Is part.Other p → s.running ≡ running.Extended c → s.packets c ≡ Some k → most_contents < length (k.contents ++ content_bytes (first p) (second p)) → Leaves s p 14 (with_packet s c None)
+  of_wrong_sum : (c : Class) (k : Packet) → Is part.End p → s.running ≡ running.Extended c → s.packets c ≡ Some k → is_right_sum c k.packet_type k.contents (second p) ≡ false → Leaves s p 15 (with_packet s c None)
 
 -- The same of the record. Beside a packet that is reported stand its contents, and beside every other answer none.
 pub data LeavesRecord (s : ExtendedState) : Step → Type 0 where

@@ -1,7 +1,7 @@
 -- How a state keeps a reader: seven packets, the contents of each the first bytes of 32. The port's own words; what a pair does
 -- is said in `Extended`, and here which record that leaves.
 use Rattle.std.specs.Prelude.{ℕ, ◌+◌, ◌-◌, min, eqb, leb, get_or, length, replicate, set, take, Bool, cond, false, List, [], ◌∷◌}
-use Rattle.std.proofs.Math.Option.{Option, none, some}
+use Rattle.std.specs.Prelude.{Option, None, Some}
 use Rattle.code.specs.Outcome.{Outcome, answer, refused}
 use Rattle.code.specs.Parity.{stripped}
 use Rattle.code.specs.Read.{is_odd_pair}
@@ -90,8 +90,8 @@ fresh_state = record { captions = receiver.fresh; running = running.Captions; pa
 
 -- the reader that a state keeps
 abbrev pub packet_for : PacketType → Contents → Option Packet
-packet_for packet_type_is.Absent k = none
-packet_for (packet_type_is.Known t) k = some (record { packet_type = t; contents = contents_of k })
+packet_for packet_type_is.Absent k = None
+packet_for (packet_type_is.Known t) k = Some (record { packet_type = t; contents = contents_of k })
 
 abbrev pub packet_in : Unfinished → Option Packet
 packet_in u = packet_for u.packet_type u.contents

@@ -5,7 +5,7 @@
 use mathlib.Core.Bool.{Bool, true, false, cond, true≢false}
 use mathlib.Core.List.{List, [], ◌∷◌, ◌++◌, append_assoc, append-nil}
 use mathlib.Core.Logic.{⊎_elim}
-use mathlib.Core.Option.{Option}
+use Rattle.std.specs.Prelude.{Option}
 use mathlib.Core.Path.{◌≡◌, refl, ap, ap₂, sym, subst, ◌∙◌}
 use Prim.Native.Nat.{ℕ, zero, suc, ◌+◌, ◌-◌, ◌≤◌, ◌<◌}
 use native.Mathlib.Omega.{arith}
@@ -171,7 +171,7 @@ flushed_open l room o = by_room (ltb room (waiting l.line)) refl
       ahead = omega (arith, ltb-true room (waiting l.line) more, waiting_is l.line o.begun.inside);
       short = o.short;
     }
-    by_room false none = record {
+    by_room false None = record {
       pairs = o.pairs;
       refused = o.refused;
       begun = empty_begun;
@@ -181,7 +181,7 @@ flushed_open l room o = by_room (ltb room (waiting l.line)) refl
 
 -- nothing waits once all of it was written
 all_written : (l : Line) (room : ℕ) → ltb room (waiting l) ≡ false → pending (unwritten l room) ≡ []
-all_written l room none = ap pending (empty_where_no_more l room none)
+all_written l room None = ap pending (empty_where_no_more l room None)
 
 -- one piece: what was still to write is what the piece wrote, then what is still to write with the input not taken
 abbrev Goes : Listing → List ℕ → List ℕ → Piece → Type 0

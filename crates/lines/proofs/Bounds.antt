@@ -2,7 +2,7 @@
 -- Assumes nothing.
 use mathlib.Core.Bool.{Bool, true, false, cond}
 use mathlib.Core.List.{List, [], ◌∷◌, ◌++◌}
-use mathlib.Core.Option.{Option, none, some}
+use Rattle.std.specs.Prelude.{Option, None, Some}
 use mathlib.Core.Path.{◌≡◌, refl, ap, sym, ◌∙◌}
 use Prim.Native.Nat.{ℕ, ◌+◌, ◌≤◌, ◌<◌}
 use native.Mathlib.Omega.{arith}
@@ -90,8 +90,8 @@ refused_short n less = omega (arith, eight_digits n less)
 
 -- the line of a pair has at most 42 bytes
 pair_line_short : (k : ℕ) (o : Outcome (Option Cea608)) → k < 100000000 → ((n : ℕ) → o ≡ refused n → n < 100000000) → length (line_of k o) ≤ 42
-pair_line_short k (answer none) less few = omega arith
-pair_line_short k (answer (some e)) less few = line_short k 32 (event_words e) less (event_short e)
+pair_line_short k (answer None) less few = omega arith
+pair_line_short k (answer (Some e)) less few = line_short k 32 (event_words e) less (event_short e)
 pair_line_short k (refused n) less few = omega (arith, line_short k 16 (refused_words n) less (refused_short n (few n refl)))
 
 same_refusal : {n m : ℕ} → ◌≡◌ {A = Outcome (Option Cea608)} (refused n) (refused m) → n ≡ m

@@ -52,8 +52,8 @@ module _ (l : Listing) (input output : List ℕ) (p : Progress) (after : List �
   ends_the_same = ap (λ (x : Piece). x.next) rest_is ∙ ap (λ (x : Piece). x.next) (calls_add_up input l (length output))
 
   pub less_to_write : 0 < length output → length after ≤ p.written → length rest.text < length (whole_piece l input).text
-  less_to_write some full =
-      omega (arith, same_room, wrote, some, full, ap (λ (x : Piece). length x.text) rest_is, ap (λ (x : Piece). length x.text) (calls_add_up input l (length output)), length-append piece.text (whole_piece piece.next (drop piece.taken input)).text)
+  less_to_write Some full =
+      omega (arith, same_room, wrote, Some, full, ap (λ (x : Piece). length x.text) rest_is, ap (λ (x : Piece). length x.text) (calls_add_up input l (length output)), length-append piece.text (whole_piece piece.next (drop piece.taken input)).text)
 
   pub all_where_not_full : p.written < length after → p.listing ≡ (whole_piece l input).next
   all_where_not_full room =

@@ -67,16 +67,16 @@ idle_byte l room on a rest =
 
 -- what waits and has room is written first, and then it is as if nothing had waited
 flush_first : (l : Listing) (room : ℕ) → l.ended ≡ false → ltb room (waiting l.line) ≡ false → (input : List ℕ) → piece_of l input room ≡ prefixed (writes l.line room) (piece_of (with_line l empty_line) input (room - length (writes l.line room)))
-flush_first l room on none [] =
+flush_first l room on None [] =
     let w = writes l.line room in
-    ap₂ {C = Piece} (λ (t : List ℕ) (x : Line). record { taken = 0; text = t; next = with_line l x }) (sym (append-nil w)) (empty_where_no_more l.line room none)
+    ap₂ {C = Piece} (λ (t : List ℕ) (x : Line). record { taken = 0; text = t; next = with_line l x }) (sym (append-nil w)) (empty_where_no_more l.line room None)
     ∙ ap (prefixed w) (sym (idle_at_end l (room - length w)))
-flush_first l room on none (a ∷ rest) =
+flush_first l room on None (a ∷ rest) =
     let w = writes l.line room in
-    let goes : stops l room ≡ false = ap₂ (λ (t b : Bool). cond t true b) on none in
+    let goes : stops l room ≡ false = ap₂ (λ (t b : Bool). cond t true b) on None in
     let next : Line → Piece = λ (x : Line). after_byte w (piece_of (absorbed (with_line l x) a) rest (room - length w)) in
     ap (λ (t : Bool). cond t (flushed_only l room) (next (unwritten l.line room))) goes
-    ∙ ap next (empty_where_no_more l.line room none)
+    ∙ ap next (empty_where_no_more l.line room None)
     ∙ ap (prefixed w) (sym (idle_byte l (room - length w) on a rest))
 
 -- a byte is taken, where nothing waits
@@ -127,19 +127,19 @@ module _ (l : Listing) (output : List ℕ) (written : ℕ) (inside : written ≤
 
   -- all that waits is written, and the reading comes to the same
   pub goes_on_lem : (input : List ℕ) (taken : ℕ) → l.ended ≡ false → ltb (length output - written) (waiting l.line) ≡ false → comes_to input taken (with_line l empty_line) (filled l output written) (written + length (unwritten_text l output written)) ≡ comes_to input taken l output written
-  goes_on_lem input taken on none =
+  goes_on_lem input taken on None =
       let w = unwritten_text l output written in
       let room = length output - written in
       let less : length (filled l output written) - (written + length w) ≡ room - length w = omega (arith, filled_length) in
       ap (λ (n : ℕ). once_read taken (written + length w) (filled l output written) (piece_of (with_line l empty_line) (drop taken input) n)) less
-      ∙ sym (ap (once_read taken written output) (flush_first l room on none (drop taken input)) ∙ turned taken _)
+      ∙ sym (ap (once_read taken written output) (flush_first l room on None (drop taken input)) ∙ turned taken _)
 
   -- no turn more
   ends_with : (taken : ℕ) (p : Piece) → p ≡ flushed_only l (length output - written) → once_read taken written output p ≡ (taken, written + length (unwritten_text l output written), left l output written, filled l output written)
   ends_with taken p e =
-      let none : taken + 0 ≡ taken = omega arith in
+      let None : taken + 0 ≡ taken = omega arith in
       ap (once_read taken written output) e
-      ∙ ap {B = Read} (λ (n : ℕ). (n, written + length (unwritten_text l output written), left l output written, filled l output written)) none
+      ∙ ap {B = Read} (λ (n : ℕ). (n, written + length (unwritten_text l output written), left l output written, filled l output written)) None
 
   stops_at_end : (input : List ℕ) (taken : ℕ) → length input ≤ taken → comes_to input taken l output written ≡ (taken, written + length (unwritten_text l output written), left l output written, filled l output written)
   stops_at_end input taken over_all =
@@ -200,8 +200,8 @@ module _ (l : Listing) (output : List ℕ) (written : ℕ) (inside : written ≤
   at_end_lem input taken m over_all e = stopped taken m e ∙ sym (stops_at_end l output written inside input taken over_all)
 
   pub where_more_is_left : (input : List ℕ) (taken : ℕ) (m : Listing) → taken < length input → m ≡ with_line l r.line → has_more r.line ≡ true → (taken, written + r.count, m, with_part output written ys) ≡ comes_to input taken l output written
-  where_more_is_left input taken m more e some =
-      stopped taken m e ∙ sym (stops_here l output written inside input taken more (stop_by l.ended (sym more_is ∙ some)))
+  where_more_is_left input taken m more e Some =
+      stopped taken m e ∙ sym (stops_here l output written inside input taken more (stop_by l.ended (sym more_is ∙ Some)))
     where
       stop_by : (t : Bool) {b : Bool} → b ≡ true → cond t true b ≡ true
       stop_by true e = refl
@@ -213,14 +213,14 @@ module _ (l : Listing) (output : List ℕ) (written : ℕ) (inside : written ≤
       stopped taken m e ∙ sym (stops_here l output written inside input taken more (ap (λ (t : Bool). cond t true b) (sym (ended_is m e) ∙ end)))
 
   pub flushed_on : (input : List ℕ) (taken : ℕ) (m : Listing) → m ≡ with_line l r.line → has_more r.line ≡ false → m.ended ≡ false → comes_to input taken m (with_part output written ys) (written + r.count) ≡ comes_to input taken l output written
-  flushed_on input taken m e none going =
+  flushed_on input taken m e None going =
       let room = length output - written in
-      let no_more = sym more_is ∙ none in
+      let no_more = sym more_is ∙ None in
       ap₂ (λ (o : List ℕ) (k : ℕ). comes_to input taken m o (written + k)) part_filled counted
       ∙ ap (λ (x : Listing). comes_to input taken x (filled l output written) (written + length (unwritten_text l output written)))
       (left_is m e ∙ ap (with_line l) (empty_where_no_more l.line room no_more))
       ∙ goes_on_lem l output written inside input taken (sym (ended_is m e) ∙ going) no_more
 
   pub line_is_empty : (m : Listing) → m ≡ with_line l r.line → has_more r.line ≡ false → m.line ≡ empty_line
-  line_is_empty m e none =
-      ap (λ (x : Listing). x.line) e ∙ line_left ∙ empty_where_no_more l.line (length output - written) (sym more_is ∙ none)
+  line_is_empty m e None =
+      ap (λ (x : Listing). x.line) e ∙ line_left ∙ empty_where_no_more l.line (length output - written) (sym more_is ∙ None)

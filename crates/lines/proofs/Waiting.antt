@@ -77,10 +77,10 @@ left_where_more l room = by_room (ltb room (waiting l)) refl
   where
     by_room : (t : Bool) → ltb room (waiting l) ≡ t → has_more (cond t (record { bytes = l.bytes; at = l.at + room; len = l.len }) empty_line) ≡ t
     by_room true more = lt-ltb 0 (waiting (record { bytes = l.bytes; at = l.at + room; len = l.len })) (omega (arith, ltb-true room (waiting l) more))
-    by_room false none = refl
+    by_room false None = refl
 
 pub empty_where_no_more : (l : Line) (room : ℕ) → ltb room (waiting l) ≡ false → unwritten l room ≡ empty_line
-empty_where_no_more l room none = rw none refl
+empty_where_no_more l room None = rw None refl
 
 pub nothing_waits : (room : ℕ) → ltb room (waiting empty_line) ≡ false
 nothing_waits room = le-ltb room 0 (omega arith)

@@ -1,6 +1,6 @@
 -- The words of the listing and its lines, from 01's section "The listing". A line begins with the number of its pair.
 use Rattle.std.specs.Prelude.{ℕ, ◌+◌, ◌/◌, ◌%◌, Bool, true, false, cond, List, [], ◌∷◌, ◌++◌, leb, ltb}
-use Rattle.std.proofs.Math.Option.{Option, none, some}
+use Rattle.std.specs.Prelude.{Option, None, Some}
 use Rattle.code.specs.Channel.{channel_id}
 use Rattle.code.specs.Characters.{points}
 use Rattle.code.specs.MidRow.{is_underlined, mid_row_number}
@@ -89,8 +89,8 @@ line k words = decimal k ++ (space ∷ (words ++ (0x0A ∷ [])))
 
 -- the line of what a pair gave, if it gave anything
 abbrev pub line_of : ℕ → Outcome (Option Cea608) → List ℕ
-line_of k (answer none) = []
-line_of k (answer (some e)) = line k (event_words e)
+line_of k (answer None) = []
+line_of k (answer (Some e)) = line k (event_words e)
 line_of k (refused n) = line k (refused_words n)
 
 -- the last line: whole pairs read, and all lines that say refused

@@ -19,15 +19,15 @@ module _ (begun next : Listing) (n : ℕ) (input : List ℕ) (failed : Bool) (fi
   written l e = e ∙ ap (λ (t : Bool). cond t l (whole_piece l (take n input)).next) fine
 
   pub after_the_end : n ≡ 0 → (l : Listing) → l ≡ ended_listing begun → next ≡ cond failed l (whole_piece l (take n input)).next → next ≡ after_block begun (take n input)
-  after_the_end none l ended e =
+  after_the_end None l ended e =
       written l e
-      ∙ ap₂ (λ (x : Listing) (k : ℕ). (whole_piece x (take k input)).next) ended none
-      ∙ sym (ap (λ (k : ℕ). after_block begun (take k input)) none)
+      ∙ ap₂ (λ (x : Listing) (k : ℕ). (whole_piece x (take k input)).next) ended None
+      ∙ sym (ap (λ (k : ℕ). after_block begun (take k input)) None)
 
   pub after_some : 0 < n → n ≤ length input → next ≡ cond failed begun (whole_piece begun (take n input)).next → next ≡ after_block begun (take n input)
-  after_some some inside e =
+  after_some Some inside e =
       written begun e
-      ∙ sym (after_some_bytes begun (take n input) (omega (arith, some, length-take-le n input inside)))
+      ∙ sym (after_some_bytes begun (take n input) (omega (arith, Some, length-take-le n input inside)))
 
 -- no more bytes than there are
 take_min : (k : ℕ) (input : List ℕ) → take (min k (length input)) input ≡ take k input

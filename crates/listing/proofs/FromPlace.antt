@@ -32,8 +32,8 @@ module _ (l : Listing) (input : List ℕ) (at : ℕ) (output : List ℕ) (p : Pr
   ends_the_same = ap (λ (x : Piece). x.next) rest_is ∙ called.ends_the_same l (drop at input) output p after of_the_rest
 
   pub less_to_write : 0 < length output → length after ≤ p.written → length (whole_piece p.listing (drop (at + p.taken) input)).text < length (whole_piece l (drop at input)).text
-  less_to_write some full =
-      omega (arith, ap (λ (x : Piece). length x.text) rest_is, called.less_to_write l (drop at input) output p after of_the_rest some full)
+  less_to_write Some full =
+      omega (arith, ap (λ (x : Piece). length x.text) rest_is, called.less_to_write l (drop at input) output p after of_the_rest Some full)
 
   pub all_where_not_full : p.written < length after → p.listing ≡ (whole_piece l (drop at input)).next
   all_where_not_full = called.all_where_not_full l (drop at input) output p after of_the_rest

@@ -64,9 +64,9 @@ read_kept bytes r n output q after promised k =
 end_kept : (bytes : List ℕ) (r : Run) (output : List ℕ) (q : Progress) (after : List ℕ) → Finished r → read_outcome q after ≡ end_packets r.listing output → Kept bytes r → Kept bytes (called q after r)
 unfolding end_packets
 end_kept bytes r output q after finished promised k =
-    let none : r.listing.ended ≡ false → r.left ≡ [] = λ on. ⊎_elim (λ e. e) (λ e. absurd (true≢false (sym e ∙ on))) finished in
+    let None : r.listing.ended ≡ false → r.left ≡ [] = λ on. ⊎_elim (λ e. e) (λ e. absurd (true≢false (sym e ∙ on))) finished in
     subst (Kept bytes) (sym (as_a_piece r output q after (end_of r.listing (length output)) promised))
-    (piece_kept bytes r k (end_of r.listing (length output)) (an_end_says r.listing k.sound r.left (length output) none))
+    (piece_kept bytes r k (end_of r.listing (length output)) (an_end_says r.listing k.sound r.left (length output) None))
 
 calls_kept : (bytes : List ℕ) {r last : Run} → Calls r last → Kept bytes r → Kept bytes last
 calls_kept bytes calls.none k = k

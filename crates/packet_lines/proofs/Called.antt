@@ -65,10 +65,10 @@ module _ (l : PacketListing) (input output : List ℕ) (p : Progress) (after : L
       ap (λ (x : Read). length x.3) as_a_piece ∙ same_length piece.text output (no_more_than_room input l (length output))
 
   pub takes_some : l.ended ≡ false → any_text ≤ length output → 0 < length input → 0 < p.taken
-  takes_some on room some = omega (arith, takes, of input some)
+  takes_some on room Some = omega (arith, takes, of input Some)
     where
       of : (xs : List ℕ) → 0 < length xs → 0 < (piece_of l xs (length output)).taken
-      of [] none = absurd (omega (arith, none))
+      of [] None = absurd (omega (arith, None))
       of (a ∷ rest) more = a_byte_is_taken l a rest (length output) on room
 
   pub ends_the_same : (whole_piece p.listing (drop p.taken input)).next ≡ (whole_piece l input).next

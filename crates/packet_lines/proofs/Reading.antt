@@ -38,9 +38,9 @@ comes_to input taken l s = once_read taken s (piece_of l (drop taken input) (len
 -- text that fits, put from the start on
 from_the_start : (output text : List ℕ) → length text ≤ length output → put_all (0, output) text ≡ (length text, text ++ drop (length text) output)
 from_the_start output text fits =
-    let none : 0 + length text ≡ length text = omega arith in
+    let None : 0 + length text ≡ length text = omega arith in
     all_places text 0 output (omega (arith, fits))
-    ∙ ap {B = Placed} (λ (n : ℕ). (n, text ++ drop (length text) output)) none
+    ∙ ap {B = Placed} (λ (n : ℕ). (n, text ++ drop (length text) output)) None
 
 abbrev answered : Reached → Read
 answered x = (x.0, x.2.0, x.1, x.2.1)
@@ -50,16 +50,16 @@ unfolding read_packets
 as_promised input l output e =
     let whole : length output - 0 ≡ length output = omega arith in
     let p = piece_of l input (length output) in
-    let none : 0 + p.taken ≡ p.taken = omega arith in
+    let None : 0 + p.taken ≡ p.taken = omega arith in
     ap answered e
     ∙ ap (λ (room : ℕ). answered (once_read 0 (0, output) (piece_of l input room))) whole
-    ∙ ap₂ {C = Read} (λ (n : ℕ) (s : Placed). (n, s.0, p.next, s.1)) none (from_the_start output p.text (no_more_than_room input l (length output)))
+    ∙ ap₂ {C = Read} (λ (n : ℕ) (s : Placed). (n, s.0, p.next, s.1)) None (from_the_start output p.text (no_more_than_room input l (length output)))
 
 -- no byte more is taken
 stays_at : (taken : ℕ) (s : Placed) (l : PacketListing) (p : Piece) → p ≡ stays l → once_read taken s p ≡ (taken, l, s)
 stays_at taken s l p e =
-    let none : taken + 0 ≡ taken = omega arith in
-    ap (once_read taken s) e ∙ ap {B = Reached} (λ (n : ℕ). (n, l, s)) none
+    let None : taken + 0 ≡ taken = omega arith in
+    ap (once_read taken s) e ∙ ap {B = Reached} (λ (n : ℕ). (n, l, s)) None
 
 pub at_the_end : (input : List ℕ) (taken : ℕ) (l : PacketListing) (s : Placed) → length input ≤ taken → (taken, l, s) ≡ comes_to input taken l s
 at_the_end input taken l s over =

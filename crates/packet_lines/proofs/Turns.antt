@@ -186,10 +186,10 @@ said_at_the_end l on sound = (
 )
 
 pub an_end_says : (l : PacketListing) → Sound l → (left : List ℕ) (room : ℕ) → (l.ended ≡ false → left ≡ []) → Ends l left (end_of l room)
-an_end_says l sound left room none = unless_stopped l.ended refl (ltb room any_text)
+an_end_says l sound left room None = unless_stopped l.ended refl (ltb room any_text)
   where
     unless_stopped : (ended : Bool) → l.ended ≡ ended → (full : Bool) → Ends l left (cond (cond ended true full) (stays l) (said_only (of_end l)))
     unless_stopped true e full = (refl, sound)
     unless_stopped false e true = (refl, sound)
     unless_stopped false e false =
-        subst (λ (xs : List ℕ). Ends l xs (said_only (of_end l))) (sym (none e)) (said_at_the_end l e sound)
+        subst (λ (xs : List ℕ). Ends l xs (said_only (of_end l))) (sym (None e)) (said_at_the_end l e sound)

@@ -35,6 +35,6 @@ Finished r = (r.left ≡ []) ⊎ (r.listing.ended ≡ true)
 
 -- calls as `read` and `end` promise them, `end` where the run is finished
 pub data Calls : Run → Run → Type 0 where
-  none : {r : Run} → Calls r r
+  None : {r : Run} → Calls r r
   reads : {r last : Run} (n : ℕ) (output : List ℕ) (p : Progress) (after : List ℕ) → read_outcome p after ≡ read_packets r.listing (take n r.left) output → Calls (called p after r) last → Calls r last
   ends : {r last : Run} (output : List ℕ) (p : Progress) (after : List ℕ) → Finished r → read_outcome p after ≡ end_packets r.listing output → Calls (called p after r) last → Calls r last

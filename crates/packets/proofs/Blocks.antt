@@ -14,13 +14,13 @@ use Rattle.packet_lines.specs.declared.listing.PacketListing.{PacketListing}
 -- what is left of a block that has bytes, and of none, which is the end of the stream, where nothing failed
 module _ (begun next : PacketListing) (n : ℕ) (input : List ℕ) (failed : Bool) (fine : failed ≡ false) where
   pub after_none : n ≡ 0 → next ≡ cond failed begun (whole_end begun).next → next ≡ after_block begun (take n input)
-  after_none none e =
+  after_none None e =
       e
       ∙ ap (λ (t : Bool). cond t begun (whole_end begun).next) fine
-      ∙ sym (ap (λ (k : ℕ). after_block begun (take k input)) none)
+      ∙ sym (ap (λ (k : ℕ). after_block begun (take k input)) None)
 
   pub after_some : 0 < n → n ≤ length input → next ≡ cond failed begun (whole_piece begun (take n input)).next → next ≡ after_block begun (take n input)
-  after_some some inside e =
+  after_some Some inside e =
       e
       ∙ ap (λ (t : Bool). cond t begun (whole_piece begun (take n input)).next) fine
-      ∙ sym (after_some_bytes begun (take n input) (omega (arith, some, length-take-le n input inside)))
+      ∙ sym (after_some_bytes begun (take n input) (omega (arith, Some, length-take-le n input inside)))

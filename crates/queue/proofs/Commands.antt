@@ -3,7 +3,7 @@
 -- Assumes nothing.
 use mathlib.Core.Bool.{Bool, true, false, not, ◌||◌, true≢false}
 use mathlib.Core.List.{List, [], ◌∷◌, ◌++◌}
-use mathlib.Core.Option.{Option, none, some}
+use Rattle.std.specs.Prelude.{Option, None, Some}
 use mathlib.Core.Path.{◌≡◌, refl, ap, sym, subst, ◌∙◌}
 use Prim.Native.Nat.{ℕ}
 use borrow.Author.Tests.{not-false}
@@ -61,9 +61,9 @@ FirstQueueable [] = Unit
 FirstQueueable (x ∷ l) = is_queueable x ≡ true
 
 fit_queueable : (l : List Code) (h : Option Code) → Fit (queued l h) → FirstQueueable (inside (queued l h))
-fit_queueable l (some c) f = held_queueable c f.held
-fit_queueable [] none f = tt
-fit_queueable (x ∷ l) none f = may_queueable x (both_left (may_wait x) (all_may_wait l) f.codes)
+fit_queueable l (Some c) f = held_queueable c f.held
+fit_queueable [] None f = tt
+fit_queueable (x ∷ l) None f = may_queueable x (both_left (may_wait x) (all_may_wait l) f.codes)
 
 front_queueable : (taken left : List Code) → FirstQueueable (taken ++ left) → FirstQueueable taken
 front_queueable [] left first = tt

@@ -3,7 +3,7 @@
 -- Assumes nothing.
 use mathlib.Core.Bool.{Bool, true, false, ◌&&◌, not, true≢false}
 use mathlib.Core.List.{List, [], ◌∷◌, ◌++◌}
-use mathlib.Core.Option.{Option, none, some}
+use Rattle.std.specs.Prelude.{Option, None, Some}
 use mathlib.Core.Path.{◌≡◌, refl, ap, sym, ◌∙◌}
 use Prim.Native.Nat.{ℕ}
 use lib.Count.{ones, ones_in}
@@ -100,8 +100,8 @@ waiting_undressed (c ∷ cs) all =
     (waiting_undressed cs (both_right (may_wait c) (all_may_wait cs) all))
 
 inside_undressed : (h : Option Code) (l : List Code) → held_fits h ≡ true → all_may_wait l ≡ true → none_dressed (held_codes h ++ l) ≡ true
-inside_undressed none l fits all = waiting_undressed l all
-inside_undressed (some c) l fits all =
+inside_undressed None l fits all = waiting_undressed l all
+inside_undressed (Some c) l fits all =
     one_undressed c l (held_queueable c fits) (waiting_undressed l all)
 
 pub no_text_inside : (q : Queue) → well_formed q ≡ true → none_dressed (inside (view q)) ≡ true

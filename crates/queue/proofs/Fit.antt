@@ -3,7 +3,7 @@
 -- Assumes nothing.
 use mathlib.Core.Bool.{Bool, true, false}
 use mathlib.Core.List.{List, [], ◌∷◌, ◌++◌}
-use mathlib.Core.Option.{none, some}
+use Rattle.std.specs.Prelude.{None, Some}
 use mathlib.Core.Path.{◌≡◌, refl}
 use Prim.Native.Nat.{◌+◌, ◌≤◌}
 use native.Mathlib.Omega.{arith}
@@ -52,14 +52,14 @@ command_may_be_held : (c : Code) → is_single c ≡ false → may_wait c ≡ tr
 command_may_be_held c e may = rw (not_one_is_two c e) (may_queueable c may)
 
 -- what waits without the first code, and with nothing held
-rest_fits : (x : Code) (l : List Code) → Fit (queued (x ∷ l) none) → Fit (queued l none)
+rest_fits : (x : Code) (l : List Code) → Fit (queued (x ∷ l) None) → Fit (queued l None)
 rest_fits x l f = record { size = omega (arith, f.size); held = refl; codes = both_right (may_wait x) (all_may_wait l) f.codes }
 
-first_may : (x : Code) (l : List Code) → Fit (queued (x ∷ l) none) → may_wait x ≡ true
+first_may : (x : Code) (l : List Code) → Fit (queued (x ∷ l) None) → may_wait x ≡ true
 first_may x l f = both_left (may_wait x) (all_may_wait l) f.codes
 
 -- the first code held
-first_held : (x : Code) (l : List Code) → is_single x ≡ false → Fit (queued (x ∷ l) none) → Fit (queued l (some x))
+first_held : (x : Code) (l : List Code) → is_single x ≡ false → Fit (queued (x ∷ l) None) → Fit (queued l (Some x))
 first_held x l e f =
     let rest = rest_fits x l f in
     record { size = rest.size; held = command_may_be_held x e (first_may x l f); codes = rest.codes }

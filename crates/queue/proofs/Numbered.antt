@@ -2,7 +2,7 @@
 -- a code's length, its bytes and whether it needs a backspace are told by its number alone.
 -- Assumes nothing.
 use mathlib.Core.Bool.{Bool, true, false, cond, ◌&&◌, ◌||◌, not, true≢false}
-use mathlib.Core.Option.{Option, map, some}
+use Rattle.std.specs.Prelude.{Option, option_map, Some}
 use mathlib.Core.Path.{◌≡◌, refl, ap, ap₂, sym, ◌∙◌}
 use Prim.Native.Nat.{ℕ, ◌+◌, ◌*◌, ◌-◌, ◌/◌, ◌%◌, ◌≤◌, ◌<◌}
 use native.Mathlib.Omega.{arith}
@@ -278,7 +278,7 @@ module _ (f : CodeField) (ch : Channel) (u a b n : ℕ) (small : u < 2) (from : 
       ∙ ap₂ {C = Code} (λ (x y : ℕ). code.Control (record { field = f; channel = ch; control = control_of u x y })) of_first of_second
 
 -- a control that is what its bytes mean
-meant_back : (f : CodeField) (ch : Channel) (c : Control) (p : Pair) → is_pair_of_control p ≡ true → meaning p.0 p.1 ≡ some c → code_of (field_number f + channel_number ch + bytes_number p) ≡ code.Control (record { field = f; channel = ch; control = c })
+meant_back : (f : CodeField) (ch : Channel) (c : Control) (p : Pair) → is_pair_of_control p ≡ true → meaning p.0 p.1 ≡ Some c → code_of (field_number f + channel_number ch + bytes_number p) ≡ code.Control (record { field = f; channel = ch; control = c })
 meant_back f ch c p fits means =
     let first = both_left (is_command p.0) (ltb p.1 0x80) fits in
     let second = ltb-true p.1 0x80 (both_right (is_command p.0) (ltb p.1 0x80) fits) in
@@ -337,9 +337,9 @@ byte_by b true e may = byte_back b (ltb-true b 0x80 e)
 byte_by b false e may = absurd (true≢false (sym may))
 
 -- a code that may wait has a number, which gives that code back
-pub gives_the_code_back : (c : Code) → may_wait c ≡ true → map code_of (number_of c) ≡ some c
+pub gives_the_code_back : (c : Code) → may_wait c ≡ true → option_map code_of (number_of c) ≡ Some c
 gives_the_code_back code.Nul may = absurd (true≢false (sym may))
 gives_the_code_back (code.Control c) may =
-    ap some (control_back c.field c.channel c.control (sym (ap is_answer (control_may c)) ∙ may))
-gives_the_code_back (code.Letter l) may = ap some (letter_back l)
-gives_the_code_back (code.Unknown b) may = ap some (byte_by b (ltb b 0x80) refl (sym (ap is_answer (unknown_may b)) ∙ may))
+    ap Some (control_back c.field c.channel c.control (sym (ap is_answer (control_may c)) ∙ may))
+gives_the_code_back (code.Letter l) may = ap Some (letter_back l)
+gives_the_code_back (code.Unknown b) may = ap Some (byte_by b (ltb b 0x80) refl (sym (ap is_answer (unknown_may b)) ∙ may))

@@ -2,7 +2,7 @@
 -- recovered from it.
 -- Assumes nothing.
 use mathlib.Core.Bool.{cond}
-use mathlib.Core.Option.{Option, none, some}
+use Rattle.std.specs.Prelude.{Option, None, Some}
 use mathlib.Core.Path.{◌≡◌, refl, ap, ap₂, sym, ◌∙◌}
 use Prim.Native.Nat.{ℕ}
 use lib.Dec.{eqb}
@@ -88,8 +88,8 @@ count_injective r s e =
 
 -- what a push stores
 abbrev entry_of : Outcome (Option ℕ) → Entry
-entry_of (answer none) = entry.Unchanged push_answer.Accepted
-entry_of (answer (some n)) = entry.Stored n
+entry_of (answer None) = entry.Unchanged push_answer.Accepted
+entry_of (answer (Some n)) = entry.Stored n
 entry_of (refused k) = entry.Unchanged (push_answer_of (refused k))
 
 entry_found : (e : Entry) → entry_of (entry_outcome e) ≡ e

@@ -2,7 +2,7 @@
 -- n codes is empty after at most 2 n pops.
 -- Assumes nothing.
 use mathlib.Core.List.{List, [], ◌∷◌}
-use mathlib.Core.Option.{Option, none, some}
+use Rattle.std.specs.Prelude.{Option, None, Some}
 use mathlib.Core.Path.{◌≡◌, refl}
 use Prim.Native.Nat.{ℕ, zero, suc, ◌*◌, ◌≤◌, ◌<◌}
 use native.Mathlib.Decide.{dec_lt}
@@ -29,9 +29,9 @@ unfolding pop
 empty_stays v e = nothing_left_lem v.held v.waiting e
   where
     nothing_left_lem : (h : Option Code) (l : List Code) → count (queued l h) ≡ 0 → count (pop_held h l).next ≡ 0
-    nothing_left_lem (some c) l z = omega (arith, z)
-    nothing_left_lem none [] z = refl
-    nothing_left_lem none (x ∷ rest) z = absurd (omega (arith, z))
+    nothing_left_lem (Some c) l z = omega (arith, z)
+    nothing_left_lem None [] z = refl
+    nothing_left_lem None (x ∷ rest) z = absurd (omega (arith, z))
 
 work_or_none : (n : ℕ) (v : Queued) → work v ≤ n → count (pop_times n v) ≡ 0
 work_or_none zero v h = omega arith

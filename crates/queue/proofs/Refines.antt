@@ -3,7 +3,8 @@
 -- Assumes nothing.
 use mathlib.Core.Bool.{Bool, true, false, cond}
 use mathlib.Core.List.{List, [], ◌∷◌, ◌++◌}
-use mathlib.Core.Option.{Option, map, none-ne-some, some-injective, none, some}
+use Rattle.std.specs.Prelude.{Option, option_map, None, Some}
+use Rattle.std.proofs.lemmas.Option.{none-some, same_Some}
 use mathlib.Core.Path.{◌≡◌, refl, ap, ap₂, sym, subst, ◌∙◌}
 use Prim.Native.Nat.{ℕ, suc, ◌+◌, ◌-◌, ◌<◌}
 use native.Mathlib.Omega.{arith}
@@ -42,11 +43,11 @@ unfolding well_formed
 fresh_good = record { formed = refl; places = refl }
 
 -- a push
-view_by_number : (m : Option ℕ) (q : Queue) (c : Code) → length q.places ≡ 64 → q.waiting < 64 → map code_of m ≡ some c → view (stored_as q m) ≡ queued (waiting_in q ++ (c ∷ [])) (held_in q.held)
-view_by_number none q c size less back = absurd (none-ne-some c back)
-view_by_number (some n) q c size less back =
+view_by_number : (m : Option ℕ) (q : Queue) (c : Code) → length q.places ≡ 64 → q.waiting < 64 → option_map code_of m ≡ Some c → view (stored_as q m) ≡ queued (waiting_in q ++ (c ∷ [])) (held_in q.held)
+view_by_number None q c size less back = absurd (none-some c back)
+view_by_number (Some n) q c size less back =
     ap (λ (l : List Code). queued l (held_in q.held)) (stored_behind q.places q.start q.waiting n size less)
-    ∙ ap (λ (x : Code). queued (waiting_in q ++ (x ∷ [])) (held_in q.held)) (some-injective (code_of n) c back)
+    ∙ ap (λ (x : Code). queued (waiting_in q ++ (x ∷ [])) (held_in q.held)) (same_Some (code_of n) c back)
 
 view_of_stored : (q : Queue) (c : Code) → length q.places ≡ 64 → q.waiting < 64 → may_wait c ≡ true → view (stored q c) ≡ queued (waiting_in q ++ (c ∷ [])) (held_in q.held)
 view_of_stored q c size less may = view_by_number (number_of c) q c size less (gives_the_code_back c may)
@@ -65,8 +66,8 @@ push_refines q c g =
     ∙ ap (λ (n : ℕ). entered (admit c n) (queued (waiting_in q ++ (c ∷ [])) (held_in q.held)) (view q)) (sym (how_many_lem q.places q.start q.waiting))
 
 stored_start : (m : Option ℕ) (q : Queue) → (stored_as q m).start ≡ q.start
-stored_start none q = refl
-stored_start (some n) q = refl
+stored_start None q = refl
+stored_start (Some n) q = refl
 
 entered_start : (o : Outcome Bool) (q : Queue) (c : Code) → (entered o (stored q c) q).1.start ≡ q.start
 entered_start (answer true) q c = stored_start (number_of c) q
@@ -74,8 +75,8 @@ entered_start (answer false) q c = refl
 entered_start (refused n) q c = refl
 
 stored_places : (m : Option ℕ) (q : Queue) → length (stored_as q m).places ≡ length q.places
-stored_places none q = refl
-stored_places (some n) q = length-set q.places _ _
+stored_places None q = refl
+stored_places (Some n) q = length-set q.places _ _
 
 entered_places : (o : Outcome Bool) (q : Queue) (c : Code) → length (entered o (stored q c) q).1.places ≡ length q.places
 entered_places (answer true) q c = stored_places (number_of c) q
@@ -122,8 +123,8 @@ drops (space_first x l e wants) = drops_one x l
 drops (command_goes x l e wants) = drops_one x l
 
 -- and a code that it then holds is the last of them, by whatever numbers they are kept
-holds_at : (numbers : ℕ → ℕ) (c : Code) (n k : ℕ) → n ≡ k → code_of (numbers k) ≡ c → some (code_of (numbers n)) ≡ some c
-holds_at numbers c n k e back = ap (λ (i : ℕ). some (code_of (numbers i))) e ∙ ap some back
+holds_at : (numbers : ℕ → ℕ) (c : Code) (n k : ℕ) → n ≡ k → code_of (numbers k) ≡ c → Some (code_of (numbers n)) ≡ Some c
+holds_at numbers c n k e back = ap (λ (i : ℕ). Some (code_of (numbers i))) e ∙ ap Some back
 
 abbrev Stand : (ℕ → ℕ) → List Code → Type 0
 Stand numbers l = (i : ℕ) → i < length l → code_of (numbers i) ≡ get_or l i code.Nul

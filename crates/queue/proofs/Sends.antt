@@ -4,7 +4,7 @@
 -- Assumes nothing.
 use mathlib.Core.Bool.{Bool, true, false, cond, true≢false}
 use mathlib.Core.List.{List, [], ◌∷◌}
-use mathlib.Core.Option.{Option, none, some}
+use Rattle.std.specs.Prelude.{Option, None, Some}
 use mathlib.Core.Path.{◌≡◌, refl, ap, ap₂, sym, ◌∙◌}
 use Prim.Native.Nat.{ℕ}
 use borrow.Author.Tests.{eqb-true}
@@ -69,7 +69,7 @@ pub made_of : (v : Queued) → Fit v → MadeOf (pop v).pair (pop v).took (pop v
 made_of v f = made_by (way_of v) f
 
 -- what is held goes out next, alone, and those waiting stay
-pub held_goes_next : (v : Queued) (c : Code) → v.held ≡ some c → pop v ≡ record { pair = pair_of c; took = c ∷ []; next = queued v.waiting none }
+pub held_goes_next : (v : Queued) (c : Code) → v.held ≡ Some c → pop v ≡ record { pair = pair_of c; took = c ∷ []; next = queued v.waiting None }
 unfolding pop
 held_goes_next v c e = ap (λ (h : Option Code). pop_held h v.waiting) e
 

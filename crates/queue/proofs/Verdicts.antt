@@ -1,7 +1,7 @@
 -- What may be queued with its number, kind by kind, as the code tests it.
 -- Assumes nothing.
 use mathlib.Core.Bool.{Bool, true, false, cond}
-use mathlib.Core.Option.{Option, none, some}
+use Rattle.std.specs.Prelude.{Option, None, Some}
 use mathlib.Core.Path.{◌≡◌, refl, ap, sym, ◌∙◌}
 use Prim.Native.Nat.{ℕ, ◌+◌, ◌/◌, ◌≤◌, ◌<◌}
 use native.Mathlib.Omega.{arith}
@@ -28,15 +28,15 @@ use Rattle.queue.specs.Number.{bytes_number, channel_number, control_number, fie
 use Rattle.queue.specs.Queueable.{unless_dressed}
 
 -- a control, by the tests of its kind
-pub as_tested : (whose : ℕ) (c : Control) (o : Outcome (Option ℕ)) → o ≡ with_number (some (whose + control_number c)) (control_tested c) → o ≡ numbered_control whose c
-as_tested whose c o e = e ∙ ap (with_number (some (whose + control_number c))) (sym (control_may (plain c)))
+pub as_tested : (whose : ℕ) (c : Control) (o : Outcome (Option ℕ)) → o ≡ with_number (Some (whose + control_number c)) (control_tested c) → o ≡ numbered_control whose c
+as_tested whose c o e = e ∙ ap (with_number (Some (whose + control_number c))) (sym (control_may (plain c)))
 
 -- a preamble
-row_by : (whose n : ℕ) (t : Bool) (b p : Pair) → answer b ≡ cond t (answer p) (refused 3) → n ≡ bytes_number b → answer (some (whose + n)) ≡ with_number (some (whose + number_in (cond t (answer p) (refused 3)))) (unless_dressed false (cond t (answer tt) (refused 3)))
-row_by whose n true b p e number = ap (λ (k : ℕ). answer (some (whose + k))) (number ∙ ap bytes_number (same e))
+row_by : (whose n : ℕ) (t : Bool) (b p : Pair) → answer b ≡ cond t (answer p) (refused 3) → n ≡ bytes_number b → answer (Some (whose + n)) ≡ with_number (Some (whose + number_in (cond t (answer p) (refused 3)))) (unless_dressed false (cond t (answer tt) (refused 3)))
+row_by whose n true b p e number = ap (λ (k : ℕ). answer (Some (whose + k))) (number ∙ ap bytes_number (same e))
 row_by whose n false b p e number = absurd (clash e)
 
-pub row_inside : (whose n : ℕ) (p : PreambleAddressCode) (b : Pair) → answer b ≡ row_bytes p → n ≡ bytes_number b → answer (some (whose + n)) ≡ numbered_control whose (control.Preamble p)
+pub row_inside : (whose n : ℕ) (p : PreambleAddressCode) (b : Pair) → answer b ≡ row_bytes p → n ≡ bytes_number b → answer (Some (whose + n)) ≡ numbered_control whose (control.Preamble p)
 unfolding control_bytes
 row_inside whose n p b e number =
     as_tested whose (control.Preamble p) _ (row_by whose n (leb p.row 14) b (preamble_bytes p) e number)
@@ -48,7 +48,7 @@ refused_by_lem n false p e = refl
 pub row_outside : (whose : ℕ) (p : PreambleAddressCode) → refused 3 ≡ row_bytes p → refused 3 ≡ numbered_control whose (control.Preamble p)
 row_outside whose p e =
     as_tested whose (control.Preamble p) _
-    (refused_by_lem (some (whose + control_number (control.Preamble p))) (leb p.row 14) (preamble_bytes p) e)
+    (refused_by_lem (Some (whose + control_number (control.Preamble p))) (leb p.row 14) (preamble_bytes p) e)
 
 -- an `Unknown` of two bytes
 pub dressed : (whose a b : ℕ) → a < 128 → b < 128 → (a / 16 ≡ 1 → ⊥) → refused 18 ≡ numbered_unknown whose a b
@@ -56,12 +56,12 @@ dressed whose a b la lb other =
     let no : is_command a ≡ false = sym (in_row_one a la) ∙ ne_eqb (a / 16) 1 other in
     as_tested whose (control.Unknown a b) _ (rw (lt-ltb a 0x80 la, lt-ltb b 0x80 lb, no) refl)
 
-pub passes : (whose a b n : ℕ) → a < 128 → b < 128 → a / 16 ≡ 1 → n ≡ bytes_number (pair a b) → answer (some (whose + 0x800 + n)) ≡ numbered_unknown whose a b
+pub passes : (whose a b n : ℕ) → a < 128 → b < 128 → a / 16 ≡ 1 → n ≡ bytes_number (pair a b) → answer (Some (whose + 0x800 + n)) ≡ numbered_unknown whose a b
 unfolding control_bytes
 passes whose a b n la lb first e =
     let yes : is_command a ≡ true = sym (in_row_one a la) ∙ eq-eqb (a / 16) 1 first in
     let sum : whose + 0x800 + n ≡ whose + (0x800 + bytes_number (pair a b)) = omega (arith, e) in
-    as_tested whose (control.Unknown a b) _ (rw (lt-ltb a 0x80 la, lt-ltb b 0x80 lb, yes) (ap (λ (k : ℕ). answer (some k)) sum))
+    as_tested whose (control.Unknown a b) _ (rw (lt-ltb a 0x80 la, lt-ltb b 0x80 lb, yes) (ap (λ (k : ℕ). answer (Some k)) sum))
 
 -- its field and channel
 field_at_most : (f : CodeField) → field_number f ≤ 0x4000
@@ -90,19 +90,19 @@ by_control c w o whose e =
     ∙ ap (with_number (number_of (code.Control c))) (control_may (plain c.control) ∙ sym (control_may c))
 
 -- and a single code
-pub nul_passes : answer none ≡ numbered code.Nul
-nul_passes = sym (ap (with_number none) nul_may)
+pub nul_passes : answer None ≡ numbered code.Nul
+nul_passes = sym (ap (with_number None) nul_may)
 
-pub letter_passes : (l : Letter) (n : ℕ) → n ≡ letter_place l → answer (some (0x8020 + n)) ≡ numbered (code.Letter l)
+pub letter_passes : (l : Letter) (n : ℕ) → n ≡ letter_place l → answer (Some (0x8020 + n)) ≡ numbered (code.Letter l)
 letter_passes l n e =
-    ap (λ (k : ℕ). answer (some (0x8020 + k))) e ∙ sym (ap (with_number (number_of (code.Letter l))) (letter_may l))
+    ap (λ (k : ℕ). answer (Some (0x8020 + k))) e ∙ sym (ap (with_number (number_of (code.Letter l))) (letter_may l))
 
-pub byte_passes : (b : ℕ) → b < 128 → answer (some (0x8080 + b)) ≡ numbered (code.Unknown b)
+pub byte_passes : (b : ℕ) → b < 128 → answer (Some (0x8080 + b)) ≡ numbered (code.Unknown b)
 byte_passes b less =
-    sym (ap (λ (t : Bool). with_number (some (0x8080 + b)) (unless_dressed false (of_seven_bits t tt))) (lt-ltb b 0x80 less))
-    ∙ sym (ap (with_number (some (0x8080 + b))) (unknown_may b))
+    sym (ap (λ (t : Bool). with_number (Some (0x8080 + b)) (unless_dressed false (of_seven_bits t tt))) (lt-ltb b 0x80 less))
+    ∙ sym (ap (with_number (Some (0x8080 + b))) (unknown_may b))
 
 pub byte_refused : (b : ℕ) → 128 ≤ b → refused 2 ≡ numbered (code.Unknown b)
 byte_refused b more =
-    sym (ap (λ (t : Bool). with_number (some (0x8080 + b)) (unless_dressed false (of_seven_bits t tt))) (le-ltb b 0x80 more))
-    ∙ sym (ap (with_number (some (0x8080 + b))) (unknown_may b))
+    sym (ap (λ (t : Bool). with_number (Some (0x8080 + b)) (unless_dressed false (of_seven_bits t tt))) (le-ltb b 0x80 more))
+    ∙ sym (ap (with_number (Some (0x8080 + b))) (unknown_may b))

@@ -2,7 +2,7 @@
 -- Assumes nothing.
 use mathlib.Core.Bool.{Bool, true, false, ◌&&◌, not}
 use mathlib.Core.List.{List}
-use mathlib.Core.Option.{Option, none, some}
+use Rattle.std.specs.Prelude.{Option, None, Some}
 use mathlib.Core.Path.{◌≡◌, refl, ap, sym, ◌∙◌}
 use Prim.Native.Nat.{ℕ, zero, suc, ◌+◌, ◌≤◌, ◌<◌}
 use native.Mathlib.Omega.{arith}
@@ -87,8 +87,8 @@ held_told n =
     ∙ below_or_not 0x8000 n (leb 0x8000 n) refl
 
 pub one_held : (h : Option Code) → length (held_codes h) ≤ 1
-one_held none = lit≤ tt
-one_held (some c) = lit≤ tt
+one_held None = lit≤ tt
+one_held (Some c) = lit≤ tt
 
 -- a code is stored only where there is room
 room : (nul : Bool) (o : Outcome Unit) (full : Bool) → admit_by nul o full ≡ answer true → full ≡ false

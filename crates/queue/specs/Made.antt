@@ -2,7 +2,7 @@
 -- the queue after it; and what a pop takes by what was held before it. And which of these pairs are to be command pairs, by
 -- T-04: those that were made of a two-byte code. Half a command is the one exception.
 use Rattle.std.specs.Prelude.{ℕ, Bool, true, false, cond, ◌||◌, not, List, [], ◌∷◌, ◌≡◌}
-use Rattle.std.proofs.Math.Option.{Option, none, some}
+use Rattle.std.specs.Prelude.{Option, None, Some}
 use Rattle.code.specs.Code.{byte_len, needs_backspace}
 use Rattle.code.specs.Outcome.{Outcome, answer, refused}
 use Rattle.code.specs.Read.{is_command}
@@ -23,11 +23,11 @@ IsByte x a = write_code x ≡ answer (pair a 0x80, 1)
 -- the other four, `rest` waits, which may be any codes
 pub data MadeOf : Pair → List Code → Queued → Type 0 where
   nothing_to_send : MadeOf (pair 0x80 0x80) [] empty
-  space_before : (c : Code) (rest : List Code) → needs_backspace c ≡ true → MadeOf (pair 0x20 0x80) [] (queued rest (some c))
+  space_before : (c : Code) (rest : List Code) → needs_backspace c ≡ true → MadeOf (pair 0x20 0x80) [] (queued rest (Some c))
   last_single : (x : Code) (a : ℕ) → IsByte x a → MadeOf (pair a 0x80) (x ∷ []) empty
-  single_before : (x c : Code) (a : ℕ) (rest : List Code) → IsByte x a → byte_len c ≡ 2 → MadeOf (pair a (cond (needs_backspace c) 0x20 0x80)) (x ∷ []) (queued rest (some c))
-  two_singles : (x y : Code) (a b : ℕ) (rest : List Code) → IsByte x a → IsByte y b → MadeOf (pair a b) (x ∷ y ∷ []) (queued rest none)
-  one_command : (c : Code) (p : Pair) (rest : List Code) → write_code c ≡ answer (p, 2) → MadeOf p (c ∷ []) (queued rest none)
+  single_before : (x c : Code) (a : ℕ) (rest : List Code) → IsByte x a → byte_len c ≡ 2 → MadeOf (pair a (cond (needs_backspace c) 0x20 0x80)) (x ∷ []) (queued rest (Some c))
+  two_singles : (x y : Code) (a b : ℕ) (rest : List Code) → IsByte x a → IsByte y b → MadeOf (pair a b) (x ∷ y ∷ []) (queued rest None)
+  one_command : (c : Code) (p : Pair) (rest : List Code) → write_code c ≡ answer (p, 2) → MadeOf p (c ∷ []) (queued rest None)
 
 -- whether a code among those taken needs a backspace
 abbrev pub has_backspace : List Code → Bool
@@ -37,8 +37,8 @@ has_backspace (c ∷ cs) = needs_backspace c || has_backspace cs
 -- what a pop takes, by what was held before it: the held command alone; and where none was held, no command that needs a
 -- backspace
 abbrev pub AfterHeld : Option Code → List Code → Type 0
-AfterHeld none taken = has_backspace taken ≡ false
-AfterHeld (some c) taken = taken ≡ c ∷ []
+AfterHeld None taken = has_backspace taken ≡ false
+AfterHeld (Some c) taken = taken ≡ c ∷ []
 
 -- whether a pair that was read is a command
 abbrev pub reads_command : Outcome (Code × Code) → Bool

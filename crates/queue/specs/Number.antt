@@ -3,7 +3,7 @@
 -- clear: 14 and 13 its field, 12 its channel, 11 whether it is an `Unknown`, 10 to 7 its first byte less 10, 6 to 0 its
 -- second byte. Of a single code, bit 15 set: 7 whether it is an `Unknown`, 6 to 0 its byte.
 use Rattle.std.specs.Prelude.{ℕ, ◌+◌, ◌*◌, ◌-◌, ◌/◌, ◌%◌, cond, ◌&&◌, eqb, leb}
-use Rattle.std.proofs.Math.Option.{Option, none, some}
+use Rattle.std.specs.Prelude.{Option, None, Some}
 use Rattle.code.specs.Channel.{channel_one, channel_two, field_one, field_two}
 use Rattle.code.specs.Letter.{letter_at, letter_place}
 use Rattle.code.specs.Outcome.{Outcome, answer, refused}
@@ -78,10 +78,10 @@ control_number (control.Preamble p) = number_in (control_bytes (control.Preamble
 control_number (control.Unknown a b) = 0x800 + number_in (control_bytes (control.Unknown a b))
 
 abbrev pub number_of : Code → Option ℕ
-number_of code.Nul = none
-number_of (code.Control c) = some (whose_number c + control_number c.control)
-number_of (code.Letter l) = some (0x8020 + letter_place l)
-number_of (code.Unknown b) = some (0x8080 + b)
+number_of code.Nul = None
+number_of (code.Control c) = Some (whose_number c + control_number c.control)
+number_of (code.Letter l) = Some (0x8020 + letter_place l)
+number_of (code.Unknown b) = Some (0x8080 + b)
 
 -- its number where a code may be queued, else the refusal
 abbrev pub with_number : Option ℕ → Outcome Unit → Outcome (Option ℕ)
@@ -97,7 +97,7 @@ abbrev pub plain : Control → ControlCode
 plain c = record { field = Absent; channel = channel_one; control = c }
 
 abbrev pub numbered_control : ℕ → Control → Outcome (Option ℕ)
-numbered_control whose c = with_number (some (whose + control_number c)) (queueable (code.Control (plain c)))
+numbered_control whose c = with_number (Some (whose + control_number c)) (queueable (code.Control (plain c)))
 
 abbrev pub numbered_unknown : ℕ → ℕ → ℕ → Outcome (Option ℕ)
 numbered_unknown whose a b = numbered_control whose (control.Unknown a b)

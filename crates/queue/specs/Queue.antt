@@ -1,7 +1,7 @@
 -- The queue as a list: the codes that wait, first in first out, and at most one that is held. Written from 01's section
 -- "Queue and sender" and its refusal 7; what may be queued is in `Queueable`. 47 CFR 79.101 has no queue.
 use Rattle.std.specs.Prelude.{ℕ, ◌+◌, Bool, true, false, cond, ◌&&◌, not, List, [], ◌∷◌, ◌++◌, eqb, leb, length}
-use Rattle.std.proofs.Math.Option.{Option, none, some}
+use Rattle.std.specs.Prelude.{Option, None, Some}
 use Rattle.code.specs.Code.{byte_len, needs_backspace}
 use Rattle.code.specs.Outcome.{Outcome, answer, refused}
 use Rattle.code.specs.Pair.{pair}
@@ -20,12 +20,12 @@ queued waiting held = record { waiting = waiting; held = held }
 
 -- nothing waits and nothing is held
 abbrev pub empty : Queued
-empty = queued [] none
+empty = queued [] None
 
 -- the held code, if there is one
 abbrev pub held_codes : Option Code → List Code
-held_codes none = []
-held_codes (some c) = c ∷ []
+held_codes None = []
+held_codes (Some c) = c ∷ []
 
 -- what is inside, in the order in which it goes out: the held code, then those waiting
 abbrev pub inside : Queued → List Code
@@ -99,27 +99,27 @@ is_single c = eqb (byte_len c) 1
 -- backspace, and the command is then held; a last single code goes with 0x80
 abbrev pub pop_two : Code → Code → List Code → Pop
 pop_two x y rest =
-    cond (is_single y) (pop_of (pair (byte_of x) (byte_of y)) (x ∷ y ∷ []) rest none)
-    (pop_of (pair (byte_of x) (cond (needs_backspace y) 0x20 0x80)) (x ∷ []) rest (some y))
+    cond (is_single y) (pop_of (pair (byte_of x) (byte_of y)) (x ∷ y ∷ []) rest None)
+    (pop_of (pair (byte_of x) (cond (needs_backspace y) 0x20 0x80)) (x ∷ []) rest (Some y))
 
 abbrev pub pop_single : Code → List Code → Pop
-pop_single x [] = pop_of (pair (byte_of x) 0x80) (x ∷ []) [] none
+pop_single x [] = pop_of (pair (byte_of x) 0x80) (x ∷ []) [] None
 pop_single x (y ∷ rest) = pop_two x y rest
 
 -- with no single code before it, a command that needs a backspace is held and 20 80 goes out; any other goes out
 abbrev pub pop_command : Code → List Code → Pop
 pop_command x rest =
-    cond (needs_backspace x) (pop_of (pair 0x20 0x80) [] rest (some x)) (pop_of (pair_of x) (x ∷ []) rest none)
+    cond (needs_backspace x) (pop_of (pair 0x20 0x80) [] rest (Some x)) (pop_of (pair_of x) (x ∷ []) rest None)
 
 -- empty gives 80 80
 abbrev pub pop_waiting : List Code → Pop
-pop_waiting [] = pop_of (pair 0x80 0x80) [] [] none
+pop_waiting [] = pop_of (pair 0x80 0x80) [] [] None
 pop_waiting (x ∷ rest) = cond (is_single x) (pop_single x rest) (pop_command x rest)
 
 -- first of all the held code
 abbrev pub pop_held : Option Code → List Code → Pop
-pop_held (some c) waiting = pop_of (pair_of c) (c ∷ []) waiting none
-pop_held none waiting = pop_waiting waiting
+pop_held (Some c) waiting = pop_of (pair_of c) (c ∷ []) waiting None
+pop_held None waiting = pop_waiting waiting
 
 unfoldable pub pop : Queued → Pop
 pop q = pop_held q.held q.waiting

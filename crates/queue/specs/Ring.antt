@@ -1,7 +1,7 @@
 -- The ring: which list it stands for, which states are well formed (01's refusal 12), and the record that each call
 -- leaves. The answers are the list's, from `Queue`; where the codes lie is in the port's own words.
 use Rattle.std.specs.Prelude.{ℕ, zero, suc, ◌+◌, ◌-◌, ◌%◌, Bool, true, cond, ◌&&◌, List, [], ◌∷◌, leb, ltb, get_or, length, replicate, set}
-use Rattle.std.proofs.Math.Option.{Option, none, some}
+use Rattle.std.specs.Prelude.{Option, None, Some}
 use Rattle.code.specs.Outcome.{Outcome, answer, refused}
 use Rattle.code.specs.declared.code.Code.{Code}
 use Rattle.code.specs.declared.pair.Pair.{Pair}
@@ -36,8 +36,8 @@ abbrev pub waiting_in : Queue → List Code
 waiting_in q = codes_from q.places q.start q.waiting
 
 abbrev pub held_in : Held → Option Code
-held_in held.Absent = none
-held_in (held.Of n) = some (code_of n)
+held_in held.Absent = None
+held_in (held.Of n) = Some (code_of n)
 
 -- the list that a ring stands for
 abbrev pub view : Queue → Queued
@@ -50,8 +50,8 @@ all_may_wait [] = true
 all_may_wait (c ∷ cs) = may_wait c && all_may_wait cs
 
 abbrev pub held_fits : Option Code → Bool
-held_fits none = true
-held_fits (some c) = may_be_held c
+held_fits None = true
+held_fits (Some c) = may_be_held c
 
 unfoldable pub well_formed : Queue → Bool
 well_formed q =
@@ -78,8 +78,8 @@ stored_number q n = record {
 }
 
 abbrev pub stored_as : Queue → Option ℕ → Queue
-stored_as q none = q
-stored_as q (some n) = stored_number q n
+stored_as q None = q
+stored_as q (Some n) = stored_number q n
 
 abbrev pub stored : Queue → Code → Queue
 stored q c = stored_as q (number_of c)
@@ -93,8 +93,8 @@ abbrev pub gone : Queue → ℕ
 gone q = length (waiting_in q) - length (pop (view q)).next.waiting
 
 abbrev pub held_as : ℕ → Option Code → Held
-held_as n none = held.Absent
-held_as n (some c) = held.Of n
+held_as n None = held.Absent
+held_as n (Some c) = held.Of n
 
 abbrev pub left_in : Queue → Queue
 left_in q = record {

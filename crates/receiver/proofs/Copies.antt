@@ -4,7 +4,7 @@
 -- Assumes nothing.
 use mathlib.Core.Bool.{Bool, true, false, cond}
 use mathlib.Core.List.{List, [], ◌∷◌}
-use mathlib.Core.Option.{Option, none}
+use Rattle.std.specs.Prelude.{Option, None}
 use mathlib.Core.Path.{◌≡◌, refl, ap, ap₂, ◌∙◌}
 use Prim.Native.Nat.{ℕ, zero, suc}
 use lib.ListN.{replicate}
@@ -41,7 +41,7 @@ module _ (p : Pair) (c : ControlCode) (command : IsCommand p c) where
   acted = answer (event_of c)
 
   abbrev skipped : Outcome (Option Cea608)
-  skipped = answer none
+  skipped = answer None
 
   copies : (n : ℕ) (t : Bool) (s : Cea608State) → is_last p s.last_data ≡ t → answers s (replicate n p) ≡ in_turn n (cond t skipped acted) (cond t acted skipped)
   copies zero t s e = refl

@@ -2,7 +2,7 @@
 -- Assumes nothing.
 use mathlib.Core.Bool.{false}
 use mathlib.Core.List.{[], ◌∷◌, map}
-use mathlib.Core.Option.{none, some}
+use Rattle.std.specs.Prelude.{None, Some}
 use mathlib.Core.Path.{◌≡◌, refl}
 use lib.Count.{ones, ones_in}
 use Rattle.code.specs.Channel.{channel_two}
@@ -24,11 +24,11 @@ use Rattle.receiver.specs.Receiver.{fresh, last_field, step}
 use Rattle.receiver.specs.declared.state.LastChannel.TheVariants as channel
 use Rattle.receiver.specs.declared.state.LastField.TheVariants as last_field_is
 
-pub decoded_as_known : map (λ (k : Known). (step on_channel_one k.pair).0) known_pairs ≡ map (λ (k : Known). answer (some k.event)) known_pairs
+pub decoded_as_known : map (λ (k : Known). (step on_channel_one k.pair).0) known_pairs ≡ map (λ (k : Known). answer (Some k.event)) known_pairs
 unfolding ones ones_in standard symbols char_of meaning control_code_of read_pair mode_of event_of text_event step
 decoded_as_known = refl
 
-pub silent_as_known : map (λ (k : Silent). (step on_channel_one k.pair).0) silent_pairs ≡ map (λ (k : Silent). answer none) silent_pairs
+pub silent_as_known : map (λ (k : Silent). (step on_channel_one k.pair).0) silent_pairs ≡ map (λ (k : Silent). answer None) silent_pairs
 unfolding ones ones_in standard symbols char_of meaning control_code_of read_pair mode_of event_of text_event step
 silent_as_known = refl
 
@@ -45,6 +45,6 @@ unfolding ones ones_in standard symbols char_of meaning control_code_of read_pai
 field_left_as_known = refl
 
 -- text is for the channel that was named last: pop-on for channel two, then Hi
-pub text_on_channel_two : answers fresh (pair 0x1C 0x20 ∷ pair 0xC8 0xE9 ∷ []) ≡ answer (some (event.NewMode channel_two PopOn)) ∷ answer (some (event.Text (record { needs_backspace = false; char1 = Point 0x48; char2 = Point 0x69; channel = channel_two }))) ∷ []
+pub text_on_channel_two : answers fresh (pair 0x1C 0x20 ∷ pair 0xC8 0xE9 ∷ []) ≡ answer (Some (event.NewMode channel_two PopOn)) ∷ answer (Some (event.Text (record { needs_backspace = false; char1 = Point 0x48; char2 = Point 0x69; channel = channel_two }))) ∷ []
 unfolding ones ones_in standard symbols char_of meaning control_code_of read_pair mode_of event_of text_event step
 text_on_channel_two = refl

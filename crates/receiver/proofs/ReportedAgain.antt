@@ -3,7 +3,8 @@
 -- Assumes nothing.
 use mathlib.Core.Bool.{Bool, true, false, cond}
 use mathlib.Core.Logic.{◌⊎◌, inl, inr}
-use mathlib.Core.Option.{none-ne-some, some-injective, none, some}
+use Rattle.std.specs.Prelude.{None, Some}
+use Rattle.std.proofs.lemmas.Option.{none-some, same_Some}
 use mathlib.Core.Path.{◌≡◌, refl, ap, ap₂, sym, subst, ◌∙◌}
 use Prim.Native.Nat.{ℕ, ◌-◌, ◌<◌}
 use borrow.Author.Tests.{le-leb}
@@ -63,13 +64,13 @@ no_text_again : (e : Cea608) (f : Field) (x y : Code) → is_text e ≡ false �
 no_text_again e f x y is told = (x, y, told, (said_is_heard e f x y is told).0)
 
 -- an event that is given is the one that was reported
-is_given : (e : Cea608) (f : Field) (d : Cea608) → some d ≡ some e → Again d f → Again e f
-is_given e f d same_event again = subst (λ (x : Cea608). Again x f) (some-injective d e same_event) again
+is_given : (e : Cea608) (f : Field) (d : Cea608) → Some d ≡ Some e → Again d f → Again e f
+is_given e f d same_event again = subst (λ (x : Cea608). Again x f) (same_Some d e same_event) again
 
-none_given : (e : Cea608) (f : Field) → none ≡ some e → Again e f
-none_given e f no_event = absurd (none-ne-some e no_event)
+none_given : (e : Cea608) (f : Field) → None ≡ Some e → Again e f
+none_given e f no_event = absurd (none-some e no_event)
 
-command_again_lem : (c : Command) (ch : Channel) (e : Cea608) (f : Field) → control_event ch (control.Command c) ≡ some e → Again e f
+command_again_lem : (c : Command) (ch : Channel) (e : Cea608) (f : Field) → control_event ch (control.Command c) ≡ Some e → Again e f
 unfolding codes_of mode_of
 command_again_lem command.ResumeCaptionLoading ch e f is = is_given e f _ is (no_text_again _ f _ _ refl refl)
 command_again_lem command.Backspace ch e f is = is_given e f _ is (no_text_again _ f _ _ refl refl)
@@ -88,20 +89,20 @@ command_again_lem command.CarriageReturn ch e f is = is_given e f _ is (no_text_
 command_again_lem command.EraseNonDisplayedMemory ch e f is = is_given e f _ is (no_text_again _ f _ _ refl refl)
 command_again_lem command.EndOfCaption ch e f is = is_given e f _ is (no_text_again _ f _ _ refl refl)
 
-tab_again : (t : Tab) (ch : Channel) (e : Cea608) (f : Field) → control_event ch (control.Tab t) ≡ some e → Again e f
+tab_again : (t : Tab) (ch : Channel) (e : Cea608) (f : Field) → control_event ch (control.Tab t) ≡ Some e → Again e f
 unfolding codes_of
 tab_again tab.TabOffset1 ch e f is = is_given e f _ is (no_text_again _ f _ _ refl refl)
 tab_again tab.TabOffset2 ch e f is = is_given e f _ is (no_text_again _ f _ _ refl refl)
 tab_again tab.TabOffset3 ch e f is = is_given e f _ is (no_text_again _ f _ _ refl refl)
 
-preamble_again : (p : PreambleAddressCode) (ch : Channel) (e : Cea608) (f : Field) → p.row < 15 → some (event.Preamble ch p) ≡ some e → Again e f
+preamble_again : (p : PreambleAddressCode) (ch : Channel) (e : Cea608) (f : Field) → p.row < 15 → Some (event.Preamble ch p) ≡ Some e → Again e f
 unfolding codes_of
 preamble_again p ch e f inside is =
     is_given e f _ is
     (no_text_again (event.Preamble ch p) f (code.Control (control_code f ch (control.Preamble p))) code.Nul refl (rw (le-leb p.row 14 (omega arith)) refl))
 
 -- a symbol, by its character
-symbol_by : (s : Symbol) (ch : Channel) (e : Cea608) (f : Field) (k : Character) → symbol_char s ≡ k → symbol_text ch s k ≡ some e → Again e f
+symbol_by : (s : Symbol) (ch : Channel) (e : Cea608) (f : Field) (k : Character) → symbol_char s ≡ k → symbol_text ch s k ≡ Some e → Again e f
 unfolding codes_of char_of
 symbol_by s ch e f character.Absent has is = none_given e f is
 symbol_by s ch e f (character.Point c) has is =
@@ -113,7 +114,7 @@ symbol_by s ch e f (character.Point c) has is =
       (control_reported field.Absent f ch (control.Symbol s) _ (symbol_reads_back field.Absent ch s) (ap (symbol_text ch s) has) refl refl).0,
     )
 
-control_again : (c : Control) (ch : Channel) (e : Cea608) (f : Field) → ((p : PreambleAddressCode) → c ≡ control.Preamble p → p.row < 15) → control_event ch c ≡ some e → Again e f
+control_again : (c : Control) (ch : Channel) (e : Cea608) (f : Field) → ((p : PreambleAddressCode) → c ≡ control.Preamble p → p.row < 15) → control_event ch c ≡ Some e → Again e f
 unfolding codes_of
 control_again (control.MidRow m) ch e f row is = is_given e f _ is (no_text_again _ f _ _ refl refl)
 control_again (control.Symbol s) ch e f row is = symbol_by s ch e f (symbol_char s) refl is
@@ -136,7 +137,7 @@ letter_or_none b = kind (eqb b 0) (leb 0x20 b)
 abbrev as_plain : Channel → Character → Character → Text
 as_plain ch k l = record { needs_backspace = false; char1 = k; char2 = l; channel = ch }
 
-letters_again : (l m : Letter) (ch : Channel) (e : Cea608) (f : Field) → text_event ch (code.Letter l) (code.Letter m) ≡ some e → Again e f
+letters_again : (l m : Letter) (ch : Channel) (e : Cea608) (f : Field) → text_event ch (code.Letter l) (code.Letter m) ≡ Some e → Again e f
 unfolding text_event codes_of
 letters_again l m ch e f is =
     let one = a_letter_has_a_character l in
@@ -146,7 +147,7 @@ letters_again l m ch e f is =
     is_given e f (event.Text t) (sym (ap₂ (text_of ch) one.1 two.1) ∙ is)
     (code.Letter l, code.Letter m, told, text_is_heard t f (code.Letter l) (code.Letter m) told (two_letters l m))
 
-first_again : (l : Letter) (y : Code) (ch : Channel) (e : Cea608) (f : Field) → char_of y ≡ character.Absent → text_event ch (code.Letter l) y ≡ some e → Again e f
+first_again : (l : Letter) (y : Code) (ch : Channel) (e : Cea608) (f : Field) → char_of y ≡ character.Absent → text_event ch (code.Letter l) y ≡ Some e → Again e f
 unfolding text_event codes_of
 first_again l y ch e f no_second is =
     let one = a_letter_has_a_character l in
@@ -155,7 +156,7 @@ first_again l y ch e f no_second is =
     is_given e f (event.Text t) (sym (ap₂ (text_of ch) one.1 no_second) ∙ is)
     (code.Letter l, code.Nul, told, text_is_heard t f (code.Letter l) code.Nul told (only_a_first l))
 
-second_again : (x : Code) (m : Letter) (ch : Channel) (e : Cea608) (f : Field) → char_of x ≡ character.Absent → text_event ch x (code.Letter m) ≡ some e → Again e f
+second_again : (x : Code) (m : Letter) (ch : Channel) (e : Cea608) (f : Field) → char_of x ≡ character.Absent → text_event ch x (code.Letter m) ≡ Some e → Again e f
 unfolding text_event codes_of
 second_again x m ch e f no_first is =
     let two = a_letter_has_a_character m in
@@ -164,7 +165,7 @@ second_again x m ch e f no_first is =
     is_given e f (event.Text t) (sym (ap₂ (text_of ch) no_first two.1) ∙ is)
     (code.Nul, code.Letter m, told, text_is_heard t f code.Nul (code.Letter m) told (only_a_second m))
 
-text_again : (a b : ℕ) (ch : Channel) (e : Cea608) (f : Field) → text_event ch (single a) (single b) ≡ some e → Again e f
+text_again : (a b : ℕ) (ch : Channel) (e : Cea608) (f : Field) → text_event ch (single a) (single b) ≡ Some e → Again e f
 unfolding text_event
 text_again a b ch e f is = by_letters (letter_or_none a) (letter_or_none b)
   where
@@ -175,19 +176,19 @@ text_again a b ch e f is = by_letters (letter_or_none a) (letter_or_none b)
     by_letters (inr empty) (inr empty_too) = none_given e f (sym (ap₂ (text_of ch) empty empty_too) ∙ is)
 
 -- a pair of text, and a command
-by_channel : (l : LastChannel) (a b : ℕ) (e : Cea608) (f : Field) → text_for l (single a) (single b) ≡ some e → Again e f
+by_channel : (l : LastChannel) (a b : ℕ) (e : Cea608) (f : Field) → text_for l (single a) (single b) ≡ Some e → Again e f
 by_channel channel.Absent a b e f is = none_given e f is
 by_channel (channel.Known ch) a b e f is = text_again a b ch e f is
 
-by_repeat : (s : Cea608State) (p : Pair) (c : ControlCode) (e : Cea608) (t : Bool) → cond t (answer none) (answer (event_of c)) ≡ answer (some e) → event_of c ≡ some e
-by_repeat s p c e true is = absurd (none-ne-some e (same is))
+by_repeat : (s : Cea608State) (p : Pair) (c : ControlCode) (e : Cea608) (t : Bool) → cond t (answer None) (answer (event_of c)) ≡ answer (Some e) → event_of c ≡ Some e
+by_repeat s p c e true is = absurd (none-some e (same is))
 by_repeat s p c e false is = same is
 
 answer_of : (t : Bool) (x y : Stepped) → (cond t x y).0 ≡ cond t x.0 y.0
 answer_of true x y = refl
 answer_of false x y = refl
 
-module _ (s : Cea608State) (p : Pair) (e : Cea608) (f : Field) (is : (step s p).0 ≡ answer (some e)) where
+module _ (s : Cea608State) (p : Pair) (e : Cea608) (f : Field) (is : (step s p).0 ≡ answer (Some e)) where
   read_command : is_odd_pair p ≡ true → is_command_pair p ≡ true → Again e f
   unfolding event_of
   read_command odd command =

@@ -2,7 +2,7 @@
 -- single codes as they were; a character's code has that character (`BothWays` of `code`).
 -- Assumes nothing.
 use mathlib.Core.Bool.{Bool, true, false, cond, true≢false}
-use mathlib.Core.Option.{Option, some}
+use Rattle.std.specs.Prelude.{Option, Some}
 use mathlib.Core.Path.{◌≡◌, refl, ap, ap₂, sym, subst, ◌∙◌}
 use Prim.Native.Nat.{ℕ, ◌≤◌, ◌<◌}
 use native.Mathlib.Omega.{arith}
@@ -48,7 +48,7 @@ unfolding write_code
 nul_written = refl
 
 -- a control that has an event and is read back is reported, where its channel and its field are the event's
-pub control_reported : (g : CodeField) (f : Field) (ch : Channel) (c : Control) (e : Cea608) → ReadsBack g ch c → control_event ch c ≡ some e → ch ≡ channel_of_event e → field_read g c ≡ field_named e f → CommandReported (code.Control (record { field = g; channel = ch; control = c })) code.Nul f e
+pub control_reported : (g : CodeField) (f : Field) (ch : Channel) (c : Control) (e : Cea608) → ReadsBack g ch c → control_event ch c ≡ Some e → ch ≡ channel_of_event e → field_read g c ≡ field_named e f → CommandReported (code.Control (record { field = g; channel = ch; control = c })) code.Nul f e
 unfolding event_of
 control_reported g f ch c e back is on named = (
   record {
@@ -57,7 +57,7 @@ control_reported g f ch c e back is on named = (
     command_decoded = λ is_a_command s other.
         command_acts s back.pair (record { field = field_read g c; channel = ch; control = c }) (code.Nul, back.read) other
         ∙ ap₂ {C = Stepped} (λ (o : Option Cea608) (d : Channel). (answer o, state (last.Was back.pair) (channel.Known d) (field_after (field_read g c) (last_field s)))) is on
-        ∙ ap {B = Stepped} (λ (h : CodeField). (answer (some e), state (last.Was back.pair) (channel.Known (channel_of_event e)) (field_after h (last_field s)))) named;
+        ∙ ap {B = Stepped} (λ (h : CodeField). (answer (Some e), state (last.Was back.pair) (channel.Known (channel_of_event e)) (field_after h (last_field s)))) named;
     text_decoded = λ is_text_lem s on_it. absurd (true≢false (sym back.is_a_command ∙ is_text_lem));
   },
   back.is_a_command,
@@ -76,7 +76,7 @@ second_code (refusal n) = code.Nul
 second_code (no_first n) = code.Nul
 second_code (no_second n) = code.Nul
 
-alone_reported : (f : Field) (ch : Channel) (c : Control) (e : Cea608) (x y : Code) → ReadsBack (field.Of f) ch c → control_event ch c ≡ some e → ch ≡ channel_of_event e → field_read (field.Of f) c ≡ field_named e f → alone f ch c ≡ codes x y → CommandReported x y f e
+alone_reported : (f : Field) (ch : Channel) (c : Control) (e : Cea608) (x y : Code) → ReadsBack (field.Of f) ch c → control_event ch c ≡ Some e → ch ≡ channel_of_event e → field_read (field.Of f) c ≡ field_named e f → alone f ch c ≡ codes x y → CommandReported x y f e
 unfolding first_code second_code
 alone_reported f ch c e x y back is on named told =
     let first : code.Control (control_code f ch c) ≡ x = ap first_code told in
@@ -93,7 +93,7 @@ tab_by f ch n x y true inside told =
     let range = bounds 1 3 n inside in
     let same_count = tab_again n range.0 range.1 in
     alone_reported f ch (control.Tab (tab_of n)) (event.TabOffset ch n) x y (tab_reads_back (field.Of f) ch (tab_of n))
-    (ap (λ (k : ℕ). some (event.TabOffset ch k)) same_count) refl refl told
+    (ap (λ (k : ℕ). Some (event.TabOffset ch k)) same_count) refl refl told
 tab_by f ch n x y false outside told = let z : ◌≡◌ {A = ℕ} 0 1 = cc in absurd (omega arith)
 
 -- preambles of the rows 0 to 14
@@ -103,11 +103,11 @@ row_by f ch p x y true inside told =
     alone_reported f ch (control.Preamble p) (event.Preamble ch p) x y (preamble_reads_back (field.Of f) ch p row) refl refl refl told
 row_by f ch p x y false outside told = let z : ◌≡◌ {A = ℕ} 0 1 = cc in absurd (omega arith)
 
-command_reported : (f : Field) (ch : Channel) (c : Command) (e : Cea608) (x y : Code) → control_event ch (control.Command c) ≡ some e → ch ≡ channel_of_event e → field.Of f ≡ field_named e f → alone f ch (control.Command c) ≡ codes x y → CommandReported x y f e
+command_reported : (f : Field) (ch : Channel) (c : Command) (e : Cea608) (x y : Code) → control_event ch (control.Command c) ≡ Some e → ch ≡ channel_of_event e → field.Of f ≡ field_named e f → alone f ch (control.Command c) ≡ codes x y → CommandReported x y f e
 command_reported f ch c e x y is on named told =
     alone_reported f ch (control.Command c) e x y (command_reads_back (field.Of f) ch c) is on named told
 
-mode_reported : (ch : Channel) (m : Mode) → control_event ch (control.Command (command_of m)) ≡ some (event.NewMode ch m)
+mode_reported : (ch : Channel) (m : Mode) → control_event ch (control.Command (command_of m)) ≡ Some (event.NewMode ch m)
 mode_reported ch PopOn = ap (new_mode ch) (mode_back PopOn)
 mode_reported ch PaintOn = ap (new_mode ch) (mode_back PaintOn)
 mode_reported ch RollUp2 = ap (new_mode ch) (mode_back RollUp2)

@@ -3,7 +3,7 @@
 -- Assumes nothing.
 use mathlib.Core.Bool.{Bool, true, false, cond}
 use mathlib.Core.List.{[], ◌∷◌, map}
-use mathlib.Core.Option.{none}
+use Rattle.std.specs.Prelude.{None}
 use mathlib.Core.Path.{◌≡◌, refl, ap, sym, subst, ◌∙◌}
 use Prim.Native.Nat.{ℕ}
 use Rattle.code.proofs.OneAnswer.{clash}
@@ -47,7 +47,7 @@ pub command_acts : (s : Cea608State) (p : Pair) (c : ControlCode) → IsCommand 
 command_acts s p c h other = step_command s p c h ∙ rw other
 
 -- and one that is gives no event, and changes nothing but the last pair, which is absent then
-pub repeat_is_skipped : (s : Cea608State) (p : Pair) (c : ControlCode) → IsCommand p c → is_last p s.last_data ≡ true → step s p ≡ (answer none, forgotten s)
+pub repeat_is_skipped : (s : Cea608State) (p : Pair) (c : ControlCode) → IsCommand p c → is_last p s.last_data ≡ true → step s p ≡ (answer None, forgotten s)
 repeat_is_skipped s p c h same = step_command s p c h ∙ rw same
 
 -- where it is not the last pair, `once` is `step`
@@ -115,14 +115,14 @@ pub text_once : (s : Cea608State) (p : Pair) → is_odd p.0 ≡ true → is_odd 
 text_once s p = text_is_never_skipped (forgotten s) p
 
 -- alarms, flash and the text commands, `Unknown`, and a symbol without a character have no event
-pub commands_without_event : (ch : Channel) → map (command_event ch) (AlarmOff ∷ AlarmOn ∷ FlashOn ∷ TextRestart ∷ ResumeTextDisplay ∷ []) ≡ none ∷ none ∷ none ∷ none ∷ none ∷ []
+pub commands_without_event : (ch : Channel) → map (command_event ch) (AlarmOff ∷ AlarmOn ∷ FlashOn ∷ TextRestart ∷ ResumeTextDisplay ∷ []) ≡ None ∷ None ∷ None ∷ None ∷ None ∷ []
 unfolding mode_of
 commands_without_event ch = refl
 
-pub unknown_without_event : (ch : Channel) (a b : ℕ) → control_event ch (control.Unknown a b) ≡ none
+pub unknown_without_event : (ch : Channel) (a b : ℕ) → control_event ch (control.Unknown a b) ≡ None
 unknown_without_event ch a b = refl
 
-pub symbol_without_event : (ch : Channel) (s : Symbol) → symbol_char s ≡ Absent → control_event ch (control.Symbol s) ≡ none
+pub symbol_without_event : (ch : Channel) (s : Symbol) → symbol_char s ≡ Absent → control_event ch (control.Symbol s) ≡ None
 symbol_without_event ch s h = rw h
 
 -- what a command leaves: it is the last pair, its channel is the last channel, and the last field is its own, or as it was
@@ -144,5 +144,5 @@ a_command_sets s p c h other =
       no_field = λ none_named. ap (λ (g : CodeField). field_after g (last_field s)) none_named;
     })
 
-pub silent_command_lem : (s : Cea608State) (p : Pair) (c : ControlCode) → IsCommand p c → is_last p s.last_data ≡ false → event_of c ≡ none → (step s p).0 ≡ answer none
+pub silent_command_lem : (s : Cea608State) (p : Pair) (c : ControlCode) → IsCommand p c → is_last p s.last_data ≡ false → event_of c ≡ None → (step s p).0 ≡ answer None
 silent_command_lem s p c h other silent = ap (λ (r : Stepped). r.0) (command_acts s p c h other) ∙ ap answer silent

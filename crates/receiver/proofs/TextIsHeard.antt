@@ -1,7 +1,7 @@
 -- Text that shares one pair is heard, with the mark that its first code has; any text is heard character by character.
 -- Assumes nothing.
 use mathlib.Core.Bool.{true≢false}
-use mathlib.Core.Option.{Option, some}
+use Rattle.std.specs.Prelude.{Option, Some}
 use mathlib.Core.Path.{◌≡◌, refl, ap, ap₂, sym, subst, ◌∙◌}
 use Prim.Native.Nat.{ℕ}
 use native.Mathlib.Omega.{arith}
@@ -52,13 +52,13 @@ both_codes (refused n) (answer w) x y e = let z : ◌≡◌ {A = ℕ} 0 1 = cc i
 both_codes (refused n) (refused m) x y e = let z : ◌≡◌ {A = ℕ} 0 1 = cc in absurd (omega arith)
 
 -- a text with a character, from its characters
-made : (ch : Channel) (k l : Character) → (k ≡ character.Absent → l ≡ character.Absent → ⊥) → text_of ch k l ≡ some (plain_text ch k l)
+made : (ch : Channel) (k l : Character) → (k ≡ character.Absent → l ≡ character.Absent → ⊥) → text_of ch k l ≡ Some (plain_text ch k l)
 made ch (character.Point c) l some_character = refl
 made ch character.Absent (character.Point d) some_character = refl
 made ch character.Absent character.Absent some_character = absurd (some_character refl refl)
 
 -- single codes that are read back are reported as text
-plain_reported : (t : Text) (f : Field) (x y : Code) → TextReadsBack x y → ((s : Cea608State) (p : Pair) → heard_codes s p x y ≡ heard_text s p x y) → text_event t.channel x y ≡ some (event.Text t) → Reported x y f (event.Text t)
+plain_reported : (t : Text) (f : Field) (x y : Code) → TextReadsBack x y → ((s : Cea608State) (p : Pair) → heard_codes s p x y ≡ heard_text s p x y) → text_event t.channel x y ≡ Some (event.Text t) → Reported x y f (event.Text t)
 unfolding step
 plain_reported t f x y back as_text_lem is = record {
   pair = back.pair;
@@ -78,7 +78,7 @@ module _ (t : Text) (x y : Code) (first : character_code t.char1 t.channel ≡ a
   second_is : char_of y ≡ t.char2
   second_is = has_its_character t.char2 t.channel y second
 
-  pub its_text : (char_of x ≡ character.Absent → char_of y ≡ character.Absent → ⊥) → text_event t.channel x y ≡ some (plain_text t.channel t.char1 t.char2)
+  pub its_text : (char_of x ≡ character.Absent → char_of y ≡ character.Absent → ⊥) → text_event t.channel x y ≡ Some (plain_text t.channel t.char1 t.char2)
   unfolding text_event
   its_text some_character =
       ap₂ (text_of t.channel) first_is second_is

@@ -1,7 +1,7 @@
 -- The events that codes encode. What a command does is from 47 CFR 79.101 (f) and (h); that alarms, flash, the text
 -- commands, `Unknown` and a symbol without a character give none is from 01.
 use Rattle.std.specs.Prelude.{false}
-use Rattle.std.proofs.Math.Option.{Option, none, some}
+use Rattle.std.specs.Prelude.{Option, None, Some}
 use Rattle.code.specs.Code.{char_of, control_needs_backspace, symbol_char}
 use Rattle.code.specs.Control.{tab_number}
 use Rattle.code.specs.Outcome.{Outcome, answer, refused}
@@ -24,40 +24,40 @@ use Rattle.receiver.specs.declared.heard.Heard.TheVariants as heard
 
 -- six commands have an event of their own
 abbrev pub own_event : Channel → Command → Option Cea608
-own_event ch command.ResumeCaptionLoading = none
-own_event ch command.Backspace = some (event.Backspace ch)
-own_event ch command.AlarmOff = none
-own_event ch command.AlarmOn = none
-own_event ch command.DeleteToEndOfRow = some (event.DeleteToEndOfRow ch)
-own_event ch command.RollUp2 = none
-own_event ch command.RollUp3 = none
-own_event ch command.RollUp4 = none
-own_event ch command.FlashOn = none
-own_event ch command.ResumeDirectionCaptioning = none
-own_event ch command.TextRestart = none
-own_event ch command.ResumeTextDisplay = none
-own_event ch command.EraseDisplayedMemory = some (event.EraseDisplay ch)
-own_event ch command.CarriageReturn = some (event.CarriageReturn ch)
-own_event ch command.EraseNonDisplayedMemory = some (event.EraseNonDisplay ch)
-own_event ch command.EndOfCaption = some (event.EndOfCaption ch)
+own_event ch command.ResumeCaptionLoading = None
+own_event ch command.Backspace = Some (event.Backspace ch)
+own_event ch command.AlarmOff = None
+own_event ch command.AlarmOn = None
+own_event ch command.DeleteToEndOfRow = Some (event.DeleteToEndOfRow ch)
+own_event ch command.RollUp2 = None
+own_event ch command.RollUp3 = None
+own_event ch command.RollUp4 = None
+own_event ch command.FlashOn = None
+own_event ch command.ResumeDirectionCaptioning = None
+own_event ch command.TextRestart = None
+own_event ch command.ResumeTextDisplay = None
+own_event ch command.EraseDisplayedMemory = Some (event.EraseDisplay ch)
+own_event ch command.CarriageReturn = Some (event.CarriageReturn ch)
+own_event ch command.EraseNonDisplayedMemory = Some (event.EraseNonDisplay ch)
+own_event ch command.EndOfCaption = Some (event.EndOfCaption ch)
 
 -- any other begins a mode or gives nothing
 abbrev pub new_mode : Channel → Option Mode → Option Cea608
-new_mode ch none = none
-new_mode ch (some m) = some (event.NewMode ch m)
+new_mode ch None = None
+new_mode ch (Some m) = Some (event.NewMode ch m)
 
 abbrev pub or_new_mode : Channel → Option Cea608 → Option Mode → Option Cea608
-or_new_mode ch (some e) m = some e
-or_new_mode ch none m = new_mode ch m
+or_new_mode ch (Some e) m = Some e
+or_new_mode ch None m = new_mode ch m
 
 abbrev pub command_event : Channel → Command → Option Cea608
 command_event ch c = or_new_mode ch (own_event ch c) (mode_of c)
 
 -- a symbol's character, which takes the place of the one before it where the symbol is an extended one
 abbrev pub symbol_text : Channel → Symbol → Character → Option Cea608
-symbol_text ch s character.Absent = none
+symbol_text ch s character.Absent = None
 symbol_text ch s (character.Point c) =
-    some
+    Some
     (event.Text
     (record {
       needs_backspace = control_needs_backspace (control.Symbol s);
@@ -70,12 +70,12 @@ abbrev pub symbol_event : Channel → Symbol → Option Cea608
 symbol_event ch s = symbol_text ch s (symbol_char s)
 
 abbrev pub control_event : Channel → Control → Option Cea608
-control_event ch (control.MidRow m) = some (event.MidRowChange ch m)
+control_event ch (control.MidRow m) = Some (event.MidRowChange ch m)
 control_event ch (control.Symbol s) = symbol_event ch s
 control_event ch (control.Command c) = command_event ch c
-control_event ch (control.Tab t) = some (event.TabOffset ch (tab_number t))
-control_event ch (control.Preamble p) = some (event.Preamble ch p)
-control_event ch (control.Unknown a b) = none
+control_event ch (control.Tab t) = Some (event.TabOffset ch (tab_number t))
+control_event ch (control.Preamble p) = Some (event.Preamble ch p)
+control_event ch (control.Unknown a b) = None
 
 unfoldable pub event_of : ControlCode → Option Cea608
 event_of c = control_event c.channel c.control
@@ -85,14 +85,14 @@ abbrev pub plain_text : Channel → Character → Character → Cea608
 plain_text ch one two = event.Text (record { needs_backspace = false; char1 = one; char2 = two; channel = ch })
 
 abbrev pub text_of : Channel → Character → Character → Option Cea608
-text_of ch (character.Point c) two = some (plain_text ch (character.Point c) two)
-text_of ch character.Absent (character.Point d) = some (plain_text ch character.Absent (character.Point d))
-text_of ch character.Absent character.Absent = none
+text_of ch (character.Point c) two = Some (plain_text ch (character.Point c) two)
+text_of ch character.Absent (character.Point d) = Some (plain_text ch character.Absent (character.Point d))
+text_of ch character.Absent character.Absent = None
 
 unfoldable pub text_event : Channel → Code → Code → Option Cea608
 text_event ch x y = text_of ch (char_of x) (char_of y)
 
 abbrev pub heard_outcome : Heard → Outcome (Option Cea608)
-heard_outcome (heard.Event e) = answer (some e)
-heard_outcome heard.Nothing = answer none
+heard_outcome (heard.Event e) = answer (Some e)
+heard_outcome heard.Nothing = answer None
 heard_outcome heard.InvalidParity = refused 1

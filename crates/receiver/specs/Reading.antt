@@ -1,7 +1,7 @@
 -- Reading a list of pairs, in the port's own words: the fold of the receiver's step, and `read_once`, the same with no
 -- test for repeats, so that every command acts.
 use Rattle.std.specs.Prelude.{List, [], ◌∷◌}
-use Rattle.std.proofs.Math.Option.{Option, none, some}
+use Rattle.std.specs.Prelude.{Option, None, Some}
 use Rattle.code.specs.Outcome.{Outcome, answer, refused}
 use Rattle.code.specs.declared.pair.Pair.{Pair}
 use Rattle.event.specs.declared.event.Cea608.{Cea608}
@@ -25,8 +25,8 @@ steps s (p ∷ ps) = step s p ∷ steps (step s p).1 ps
 -- the events among what was given, in order
 abbrev pub events : List (Outcome (Option Cea608)) → List Cea608
 events [] = []
-events (answer none ∷ os) = events os
-events (answer (some e) ∷ os) = e ∷ events os
+events (answer None ∷ os) = events os
+events (answer (Some e) ∷ os) = e ∷ events os
 events (refused n ∷ os) = events os
 
 -- a pair read once, with no test for repeats: as the receiver reads it where the last pair is absent

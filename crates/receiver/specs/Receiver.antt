@@ -1,7 +1,7 @@
 -- The receiver, from 01's section of that name. That a repeated control code acts once is 47 CFR 79.101 (i)(4)'s. Which
 -- copies act, what a corrupted pair leaves, and what text does to the wait for a repeat are 01's and the crate's.
 use Rattle.std.specs.Prelude.{Bool, false, cond}
-use Rattle.std.proofs.Math.Option.{Option, none}
+use Rattle.std.specs.Prelude.{Option, None}
 use Rattle.code.specs.Outcome.{Outcome, answer, refused}
 use Rattle.code.specs.Pair.{same_pair}
 use Rattle.code.specs.Read.{read_pair}
@@ -57,11 +57,11 @@ forgotten s = state last.Absent s.last_channel s.last_received_field
 
 -- one that repeats the last pair gives no event, and the last pair is absent then
 abbrev pub heard_command : Cea608State → Pair → ControlCode → Stepped
-heard_command s p c = cond (is_last p s.last_data) (answer none, forgotten s) (acts s p c)
+heard_command s p c = cond (is_last p s.last_data) (answer None, forgotten s) (acts s p c)
 
 -- any other pair is text for the last channel, once one is known
 abbrev pub text_for : LastChannel → Code → Code → Option Cea608
-text_for channel.Absent x y = none
+text_for channel.Absent x y = None
 text_for (channel.Known ch) x y = text_event ch x y
 
 abbrev pub heard_text : Cea608State → Pair → Code → Code → Stepped

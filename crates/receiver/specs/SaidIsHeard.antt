@@ -3,7 +3,7 @@
 -- `TextIsHeardLaw` and `CharacterByCharacterLaw` of text, and `ReportedAgainLaw` of whatever a receiver has reported.
 -- proofs/ has a file for each: SaidIsHeard, TextIsHeard, ReportedAgain.
 use Rattle.std.specs.Prelude.{ℕ, true, false, ◌≡◌}
-use Rattle.std.proofs.Math.Option.{some}
+use Rattle.std.specs.Prelude.{Some}
 use Rattle.code.specs.Code.{needs_backspace}
 use Rattle.code.specs.Outcome.{answer}
 use Rattle.code.specs.Read.{is_command_pair}
@@ -47,7 +47,7 @@ field_named (event.MidRowChange ch m) f = field.Absent
 -- or stays
 abbrev pub reports : Cea608State → Pair → Field → Cea608 → Stepped
 reports s p f e =
-    (answer (some e), state (last.Was p) (channel.Known (channel_of_event e)) (field_after (field_named e f) (last_field s)))
+    (answer (Some e), state (last.Was p) (channel.Known (channel_of_event e)) (field_after (field_named e f) (last_field s)))
 
 -- two codes are written as one pair. Every receiver reports it as that event: a command unless it takes it for a repeat of
 -- the pair before it, text where the event's channel is the last one.
@@ -95,4 +95,4 @@ CharacterByCharacterLaw =
 -- an event that a receiver has reported, mark and all, has codes for every field, and is heard again
 abbrev pub ReportedAgainLaw : Type 0
 ReportedAgainLaw =
-    (s : Cea608State) (p : Pair) (e : Cea608) (f : Field) → (step s p).0 ≡ answer (some e) → (x : Code) × (y : Code) × (codes_of e f ≡ codes x y) × Reported x y f e
+    (s : Cea608State) (p : Pair) (e : Cea608) (f : Field) → (step s p).0 ≡ answer (Some e) → (x : Code) × (y : Code) × (codes_of e f ≡ codes x y) × Reported x y f e

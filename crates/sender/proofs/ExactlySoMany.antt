@@ -3,7 +3,7 @@
 -- Assumes nothing.
 use mathlib.Core.Bool.{Bool, true, false}
 use mathlib.Core.List.{List, [], ◌∷◌, ◌++◌}
-use mathlib.Core.Option.{none}
+use Rattle.std.specs.Prelude.{None}
 use mathlib.Core.Path.{◌≡◌, refl, ap, ◌∙◌}
 use Prim.Native.Nat.{ℕ, zero, suc, ◌+◌, ◌*◌, ◌≤◌, ◌<◌}
 use native.Mathlib.Omega.{arith}
@@ -71,9 +71,9 @@ pushed_view (suc n) few =
     let long : length (replicate n a_acute) ≡ n = length-replicate n a_acute in
     (push_refines (pushed_times n sent_once) a_acute (pushed_good n)).1
     ∙ ap (λ (v : Sending). (push a_acute v).1) before
-    ∙ ap (λ (o : Outcome Bool). sending_of (entered o (queued (replicate n a_acute ++ (a_acute ∷ [])) none) (queued (replicate n a_acute) none)).1 (repeating (pair_of a_acute)))
+    ∙ ap (λ (o : Outcome Bool). sending_of (entered o (queued (replicate n a_acute ++ (a_acute ∷ [])) None) (queued (replicate n a_acute) None)).1 (repeating (pair_of a_acute)))
     (ap (admit a_acute) long ∙ admitted n (omega arith))
-    ∙ ap (λ (l : List Code). sending_of (queued l none) (repeating (pair_of a_acute))) (one_after n)
+    ∙ ap (λ (l : List Code). sending_of (queued l None) (repeating (pair_of a_acute))) (one_after n)
 
 -- for every n up to 64 a state with n codes, reached from a fresh one, that does not report idle before 3 n + 1 sends
 pub needs_exactly_so_many : (n k : ℕ) → n ≤ 64 → (idle_sender (send_sender_times k (pushed_times n sent_once))).0 ≡ answer (leb (3 * n + 1) k)

@@ -43,5 +43,5 @@ a_code_is_held n h r k e =
     ap (λ (x : Held). nothing_left n x r) e ∙ ap (λ (t : Bool). t && none_owed r) (both_fail (eqb n 0))
 
 pub no_code_left : (n : ℕ) (h : Held) (r : Repeats) (o : Owed) → n ≡ 0 → h ≡ held.Absent → r.owed ≡ o → nothing_left n h r ≡ is_absent o
-no_code_left n h r o none absent owed =
-    ap₂ (λ (k : ℕ) (x : Held). nothing_left k x r) none absent ∙ ap is_absent owed
+no_code_left n h r o None absent owed =
+    ap₂ (λ (k : ℕ) (x : Held). nothing_left k x r) None absent ∙ ap is_absent owed

@@ -3,7 +3,7 @@
 -- Assumes nothing.
 use mathlib.Core.Bool.{Bool, true, false, cond, ◌&&◌, true≢false}
 use mathlib.Core.List.{List, [], ◌∷◌}
-use mathlib.Core.Option.{Option, none, some}
+use Rattle.std.specs.Prelude.{Option, None, Some}
 use mathlib.Core.Path.{◌≡◌, refl, ap, sym, ◌∙◌}
 use Prim.Native.Nat.{ℕ, zero, suc, ◌+◌, ◌*◌, ◌≤◌, ◌<◌}
 use native.Mathlib.Omega.{arith}
@@ -97,8 +97,8 @@ send_fits s f = fits_after (source s) s.queue f
 
 -- idle: nothing is owed, and the queue is empty
 nothing_waits : (l : List Code) (h : Option Code) → eqb (count (queued l h)) 0 ≡ true → queued l h ≡ empty
-nothing_waits [] none e = refl
-nothing_waits [] (some c) e = absurd (true≢false (sym e))
+nothing_waits [] None e = refl
+nothing_waits [] (Some c) e = absurd (true≢false (sym e))
 nothing_waits (x ∷ l) h e = absurd (true≢false (sym e ∙ ne_eqb (count (queued (x ∷ l) h)) 0 (λ (z : count (queued (x ∷ l) h) ≡ 0). omega (arith, z))))
 
 nothing_owed : (o : Owed) → is_absent o ≡ true → o ≡ owed.Absent
@@ -166,8 +166,8 @@ three_a_code true (c ∷ cs) =
     (omega (arith, two_copies (is_command_code c), three_a_code false cs))
 
 held_at_most : (h : Option Code) → sends_for_held h ≤ 3 * length (held_codes h)
-held_at_most none = omega arith
-held_at_most (some c) = omega (arith, two_copies (is_command_code c))
+held_at_most None = omega arith
+held_at_most (Some c) = omega (arith, two_copies (is_command_code c))
 
 one_owed : (o : Owed) → length (owed_pairs o) ≤ 1
 one_owed owed.Absent = omega arith

@@ -2,7 +2,7 @@
 -- or twice where half a command goes first in it; two single codes share a pair; and a command that needs a backspace has a space before it, in the pair of the single
 -- code before it if there is one.
 use Rattle.std.specs.Prelude.{ℕ, ◌+◌, ◌/◌, Bool, true, false, cond, List, [], ◌∷◌, leb, length, replicate}
-use Rattle.std.proofs.Math.Option.{Option, none, some}
+use Rattle.std.specs.Prelude.{Option, None, Some}
 use Rattle.code.specs.Channel.{channel_one}
 use Rattle.code.specs.Code.{needs_backspace}
 use Rattle.code.specs.Symbol.{symbol_at}
@@ -30,8 +30,8 @@ sends_for false (c ∷ cs) = cond (is_single c) (copies c + sends_for true cs) (
 sends_for true (c ∷ cs) = cond (is_single c) (sends_for false cs) (copies c + sends_for false cs)
 
 abbrev pub sends_for_held : Option Code → ℕ
-sends_for_held none = 0
-sends_for_held (some c) = copies c
+sends_for_held None = 0
+sends_for_held (Some c) = copies c
 
 unfoldable pub sends_left : Sending → ℕ
 sends_left s = length (still_owed s.repeats) + sends_for_held s.queue.held + sends_for false s.queue.waiting
@@ -46,7 +46,7 @@ drains_exactly limit room s = least limit (least (room / 2) (sends_left s))
 
 -- n copies of a code wait, and the code was sent once just before
 abbrev pub full_of : Code → ℕ → Sending
-full_of c n = sending_of (queued (replicate n c) none) (repeating (pair_of c))
+full_of c n = sending_of (queued (replicate n c) None) (repeating (pair_of c))
 
 -- Á, 12 20, a code that takes three: a space, the command, its repeat
 abbrev pub a_acute : Code

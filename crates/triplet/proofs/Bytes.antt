@@ -5,7 +5,7 @@ use Rattle.std.proofs.lemmas.List.{get_or-take, length-take}
 use Rattle.std.proofs.Math.Seq.{take-length}
 use Rattle.code.specs.Outcome.{Outcome, answer, refused}
 use Rattle.std.proofs.Math.ListN.{set, get_elem?}
-use Rattle.std.proofs.Math.Option.{some, none}
+use Rattle.std.specs.Prelude.{Some, None}
 use Rattle.triplet.specs.Triplet.{has_marker, triplet_of}
 use Rattle.triplet.specs.Packet.{markers_right, read_packet, triplets_of, whole}
 use Rattle.triplet.specs.declared.triplet.Triplet.{Triplet}
@@ -36,7 +36,7 @@ how_many_triplets (a ∷ b ∷ c ∷ xs) = omega (arith, how_many_triplets xs)
 abbrev pub triplet_from : List ℕ → ℕ → Triplet
 triplet_from xs i = triplet_of (get_or xs i 0) (get_or xs (i + 1) 0) (get_or xs (i + 2) 0)
 
-pub triplet_there : (xs : List ℕ) (place : ℕ) → place < length xs / 3 → get_elem? (triplets_of xs) place ≡ some (triplet_from xs (3 * place))
+pub triplet_there : (xs : List ℕ) (place : ℕ) → place < length xs / 3 → get_elem? (triplets_of xs) place ≡ Some (triplet_from xs (3 * place))
 triplet_there [] place there = absurd (omega arith)
 triplet_there (a ∷ []) place there = absurd (omega arith)
 triplet_there (a ∷ b ∷ []) place there = absurd (omega arith)
@@ -47,7 +47,7 @@ triplet_there (a ∷ b ∷ c ∷ xs) (suc place) there =
     let e2 : 3 * suc place + 2 ≡ suc (suc (suc (3 * place + 2))) = omega arith in
     rw (e1, e2, e) (triplet_there xs place (omega arith))
 
-pub no_triplet_there : (xs : List ℕ) (place : ℕ) → length xs / 3 ≤ place → get_elem? (triplets_of xs) place ≡ none
+pub no_triplet_there : (xs : List ℕ) (place : ℕ) → length xs / 3 ≤ place → get_elem? (triplets_of xs) place ≡ None
 no_triplet_there [] place past = refl
 no_triplet_there (a ∷ []) place past = refl
 no_triplet_there (a ∷ b ∷ []) place past = refl

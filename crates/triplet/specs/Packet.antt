@@ -1,7 +1,7 @@
 -- A packet of triplets, from 02: "Refusals: 16 marker bits wrong, 17 length no multiple of 3, either for the whole packet;
 -- 17 first." What a packet's bytes are as triplets, and the bytes of triplets.
 use Rattle.std.specs.Prelude.{ℕ, ◌%◌, Bool, ◌&&◌, cond, true, List, [], ◌∷◌, eqb, length}
-use Rattle.std.proofs.Math.Option.{Option, none, some}
+use Rattle.std.specs.Prelude.{Option, None, Some}
 use Rattle.std.proofs.Math.ListN.{get_elem?}
 use Rattle.code.specs.Outcome.{Outcome, answer, refused}
 use Rattle.triplet.specs.Triplet.{bytes_of, has_marker, triplet_of}
@@ -58,8 +58,8 @@ count_outcome count_answer.NotWhole = refused 17
 count_outcome count_answer.WrongMarker = refused 16
 
 abbrev pub at_outcome : AtAnswer → Outcome (Option Triplet)
-at_outcome (at_answer.Is t) = answer (some t)
-at_outcome at_answer.PastEnd = answer none
+at_outcome (at_answer.Is t) = answer (Some t)
+at_outcome at_answer.PastEnd = answer None
 at_outcome at_answer.NotWhole = refused 17
 at_outcome at_answer.WrongMarker = refused 16
 

@@ -2,7 +2,7 @@
 -- bytes from three times the place on.
 use Rattle.std.proofs.Common.{List, ap, arith, sym, ◌∙◌}
 use Rattle.std.proofs.Math.ListN.{get_elem?}
-use Rattle.std.proofs.Math.Option.{some}
+use Rattle.std.specs.Prelude.{Some}
 use Rattle.code.specs.Outcome.{answer, refused}
 use Rattle.triplet.specs.Packet.{of_read}
 use Rattle.triplet.specs.declared.triplet.Triplet.{Triplet}
@@ -17,7 +17,7 @@ returns-then-packet-place c =
 pub returns-else-packet-place : goal.returns-else-packet-place
 returns-else-packet-place c =
     sym (ap (of_read (λ (ts : List Triplet). get_elem? ts c.args.place)) (read_judged c.args.packet.now (answer tt) c.in-Right.ensures)
-    ∙ ap answer (triplet_there c.args.packet.now c.args.place (omega arith) ∙ ap some (sym c.triplet_of.ensures)))
+    ∙ ap answer (triplet_there c.args.packet.now c.args.place (omega arith) ∙ ap Some (sym c.triplet_of.ensures)))
 
 pub returns-in-NotWhole : goal.returns-in-NotWhole
 returns-in-NotWhole c =

@@ -26,7 +26,7 @@ pub returns : goal.returns
 returns c =
     let l = c.args.self in
     let loop = c.loop-at in
-    let none : waiting l ≤ loop.count =
+    let None : waiting l ≤ loop.count =
     elim c.loop-at-test.branch [
       | then-loop-at-test+else-at-len w ↦ past_the_length l loop.count (omega arith)
       | else-loop-at-test w ↦ past_the_memory l loop.count (omega arith)

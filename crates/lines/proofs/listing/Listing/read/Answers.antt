@@ -18,12 +18,12 @@ returns-then-has_more c =
 pub loop-taken-preserved-then-taken-input : goal.loop-taken-preserved-then-taken-input
 loop-taken-preserved-then-taken-input c =
     let loop = c.loop-taken in
-    let none = sym c.has_more.ensures ∙ c.if-has_more.false in
+    let None = sym c.has_more.ensures ∙ c.if-has_more.false in
     let further = c.read_pairs-pairs.ensures in
     let read = c.read_pairs-pairs.result in (
       byte_taken c.args.input.now read.taken read.listing _ read.written c.if-taken-input.true further.3.0 further.3.1 _ c.absorb-listing.ensures
           ∙ further.0
-          ∙ flushed_on loop.listing loop.output loop.written loop.invariant.3 _ _ c.flush-flushed.ensures _ loop.taken _ c.with_line-listing.ensures none c.if-listing.false
+          ∙ flushed_on loop.listing loop.output loop.written loop.invariant.3 _ _ c.flush-flushed.ensures _ loop.taken _ c.with_line-listing.ensures None c.if-listing.false
           ∙ loop.invariant.0,
       further.1 ∙ part_length loop.listing loop.output loop.written loop.invariant.3 _ _ c.flush-flushed.ensures ∙ loop.invariant.1,
       omega (arith, c.if-taken-input.true),
@@ -33,10 +33,10 @@ loop-taken-preserved-then-taken-input c =
 pub loop-taken-preserved : goal.loop-taken-preserved
 loop-taken-preserved c =
     let loop = c.loop-taken in
-    let none = sym c.has_more.ensures ∙ c.if-has_more.false in
+    let None = sym c.has_more.ensures ∙ c.if-has_more.false in
     let further = c.read_pairs-pairs.ensures in (
       further.0
-          ∙ flushed_on loop.listing loop.output loop.written loop.invariant.3 _ _ c.flush-flushed.ensures _ loop.taken _ c.with_line-listing.ensures none c.if-listing.false
+          ∙ flushed_on loop.listing loop.output loop.written loop.invariant.3 _ _ c.flush-flushed.ensures _ loop.taken _ c.with_line-listing.ensures None c.if-listing.false
           ∙ loop.invariant.0,
       further.1 ∙ part_length loop.listing loop.output loop.written loop.invariant.3 _ _ c.flush-flushed.ensures ∙ loop.invariant.1,
       further.3.2,
