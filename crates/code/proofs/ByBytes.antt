@@ -1,6 +1,8 @@
 -- Every pair that is read as a command, by its two stripped bytes: each part is one computation over the 2,048 pairs of a
 -- first byte of 10 to 1F and a second of seven bits.
 -- Assumes nothing.
+use Rattle.std.specs.Prelude.{None, Option, Some}
+use Rattle.code.specs.declared.channel.Field.{Field}
 use mathlib.Core.Bool.{Bool, true, false, ◌&&◌, true≢false}
 use mathlib.Core.Path.{◌≡◌, refl, ap, sym, subst, ◌∙◌}
 use Prim.Native.Nat.{ℕ, ◌≤◌, ◌<◌}
@@ -18,18 +20,16 @@ use Rattle.code.specs.Parity.{stripped}
 use Rattle.code.specs.Read.{channel_of, control_code_of, meaning, read_pair}
 use Rattle.code.specs.declared.code.Code.{Code}
 use Rattle.code.specs.declared.code.Code.TheVariants as code
-use Rattle.code.specs.declared.control.CodeField.{CodeField}
-use Rattle.code.specs.declared.control.CodeField.TheVariants.{Of, Absent}
 use Rattle.code.specs.declared.control.Control.{Control}
 use Rattle.code.specs.declared.control.Control.TheVariants as control
 use Rattle.code.specs.declared.control.ControlCode.{ControlCode}
 
 -- an `Unknown` holds its two bytes and names no field
-abbrev names_none : CodeField → Bool
-names_none (Of f) = false
-names_none Absent = true
+abbrev names_none : Option Field → Bool
+names_none (Some f) = false
+names_none None = true
 
-abbrev holds : ℕ → ℕ → CodeField → Control → Bool
+abbrev holds : ℕ → ℕ → Option Field → Control → Bool
 holds a b f (control.MidRow m) = true
 holds a b f (control.Symbol s) = true
 holds a b f (control.Command c) = true
@@ -37,9 +37,9 @@ holds a b f (control.Tab t) = true
 holds a b f (control.Preamble p) = true
 holds a b f (control.Unknown x y) = eqb x a && (eqb y b && names_none f)
 
-none_named : (f : CodeField) → names_none f ≡ true → f ≡ Absent
-none_named (Of f) e = absurd (true≢false (sym e))
-none_named Absent e = refl
+none_named : (f : Option Field) → names_none f ≡ true → f ≡ None
+none_named (Some f) e = absurd (true≢false (sym e))
+none_named None e = refl
 
 module _ (a b : ℕ) (from : 16 ≤ a) (below : a < 32) (less : b < 128) where
   abbrev read : ControlCode
@@ -63,7 +63,7 @@ module _ (a b : ℕ) (from : 16 ≤ a) (below : a < 32) (less : b < 128) where
   its_bytes =
       agree_grid (λ (x y : ℕ). holds x y (control_code_of x y).field (control_code_of x y).control) (λ (x y : ℕ). true) 16 16 128 refl a b from below less
 
-  its_unknown : (x y : ℕ) → read.control ≡ control.Unknown x y → (x ≡ a) × (y ≡ b) × (read.field ≡ Absent)
+  its_unknown : (x y : ℕ) → read.control ≡ control.Unknown x y → (x ≡ a) × (y ≡ b) × (read.field ≡ None)
   its_unknown x y is =
       let held : (eqb x a && (eqb y b && names_none read.field)) ≡ true = sym (ap (holds a b read.field) is) ∙ its_bytes in
       let first = both_true (eqb x a) (eqb y b && names_none read.field) held in

@@ -1,6 +1,7 @@
 -- The bytes of symbols and preambles stay below 0x80 where a column, or a style and its underline, is added to them. The
 -- code points of characters, as the code's one table has them.
 -- Assumes nothing.
+use Rattle.std.specs.Prelude.{None, Some}
 use mathlib.Core.Bool.{true}
 use mathlib.Core.Path.{◌≡◌, refl, ap, sym}
 use Prim.Native.Nat.{ℕ, ◌+◌, ◌*◌, ◌≤◌, ◌<◌}
@@ -14,7 +15,6 @@ use Rattle.code.specs.Pair.{pair, plus}
 use Rattle.code.specs.Preamble.{row_prefix}
 use Rattle.code.specs.Symbol.{symbol_base}
 use Rattle.code.specs.Tables.{all_points, character_of}
-use Rattle.code.specs.declared.character.Character.TheVariants.{Point, Absent}
 use Rattle.code.specs.declared.symbol.SymbolRow.{SymbolRow}
 use Rattle.code.specs.declared.symbol.SymbolRow.TheVariants.{Special, Spanish, French, Portuguese, German}
 
@@ -37,10 +37,10 @@ pub plain_row : (row s : ℕ) → pair (row_prefix row).0 ((row_prefix row).1 + 
 plain_row row s = ap (λ (n : ℕ). plus (row_prefix row) n) (sym (add-zero (2 * s)))
 
 -- the code points of the code's one table are the definition's
-pub letter_point : (n : ℕ) → n < 96 → Point (get_or all_points n 0) ≡ get_or standard n Absent
+pub letter_point : (n : ℕ) → n < 96 → Some (get_or all_points n 0) ≡ get_or standard n None
 unfolding standard symbols
-letter_point n less = agree (λ (x : ℕ). Point (get_or all_points x 0)) (λ (x : ℕ). get_or standard x Absent) 96 refl n less
+letter_point n less = agree (λ (x : ℕ). Some (get_or all_points x 0)) (λ (x : ℕ). get_or standard x None) 96 refl n less
 
-pub symbol_point : (n : ℕ) → n < 80 → character_of (get_or all_points (96 + n) 0) ≡ get_or symbols n Absent
+pub symbol_point : (n : ℕ) → n < 80 → character_of (get_or all_points (96 + n) 0) ≡ get_or symbols n None
 unfolding standard symbols
-symbol_point n less = agree (λ (x : ℕ). character_of (get_or all_points (96 + x) 0)) (λ (x : ℕ). get_or symbols x Absent) 80 refl n less
+symbol_point n less = agree (λ (x : ℕ). character_of (get_or all_points (96 + x) 0)) (λ (x : ℕ). get_or symbols x None) 80 refl n less

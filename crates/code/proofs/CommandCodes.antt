@@ -1,6 +1,8 @@
 -- Which codes are written as command pairs: field, channel and parity keep a first byte of 10 to 1F in that range and any
 -- other out of it, and each row of symbols and of preambles begins with one.
 -- Assumes nothing.
+use Rattle.std.specs.Prelude.{Option}
+use Rattle.code.specs.declared.channel.Field.{Field}
 use mathlib.Core.Bool.{Bool, true, false, cond, ◌&&◌}
 use mathlib.Core.Path.{◌≡◌, refl, ap, sym, subst, ◌∙◌}
 use Prim.Native.Nat.{ℕ, ◌+◌, ◌<◌}
@@ -24,7 +26,6 @@ use Rattle.code.specs.Write.{as_command, as_single, command_bytes, control_bytes
 use Rattle.code.specs.declared.channel.Channel.{Channel}
 use Rattle.code.specs.declared.code.Code.{Code}
 use Rattle.code.specs.declared.code.Code.TheVariants as code
-use Rattle.code.specs.declared.control.CodeField.{CodeField}
 use Rattle.code.specs.declared.control.Control.{Control}
 use Rattle.code.specs.declared.control.Control.TheVariants as control
 use Rattle.code.specs.declared.pair.Pair.{Pair}
@@ -47,7 +48,7 @@ field_says : (t : Bool) (ch : Channel) (a : ℕ) → (t ≡ true → a ≡ 0x14)
 field_says true ch a is14 less = channel_says ch.0 0x15 (lit< tt) ∙ ap is_command (sym (is14 refl))
 field_says false ch a is14 less = channel_says ch.0 a less
 
-line_says : (f : CodeField) (ch : Channel) (p : Pair) → p.0 < 128 → is_command (stripped (on_line f ch p).0) ≡ is_command p.0
+line_says : (f : Option Field) (ch : Channel) (p : Pair) → p.0 < 128 → is_command (stripped (on_line f ch p).0) ≡ is_command p.0
 unfolding on_line
 line_says f ch p less =
     let two = is_field_two f in
@@ -76,7 +77,7 @@ preamble_says : (p : PreambleAddressCode) → p.row < 15 → is_command (preambl
 preamble_says p less = prefix_says p.row less
 
 -- a first byte of 10 to 1F is still one when sent
-goes_out : (f : CodeField) (ch : Channel) (p : Pair) → is_command p.0 ≡ true → is_command (stripped (on_line f ch p).0) ≡ true
+goes_out : (f : Option Field) (ch : Channel) (p : Pair) → is_command p.0 ≡ true → is_command (stripped (on_line f ch p).0) ≡ true
 goes_out f ch p e = line_says f ch p (omega (arith, command_range p.0 e)) ∙ e
 
 -- of an outcome: if it is an answer, b says whether its first byte is 10 to 1F
@@ -84,15 +85,15 @@ abbrev Says : Bool → Outcome (Pair × ℕ) → Type 0
 Says b (answer x) = is_command (stripped x.0.0) ≡ b
 Says b (refused n) = Unit
 
-preamble_goes_out : (f : CodeField) (ch : Channel) (p : PreambleAddressCode) (t : Bool) → leb p.row 14 ≡ t → Says true (as_command f ch (cond t (answer (preamble_bytes p)) (refused 3)))
+preamble_goes_out : (f : Option Field) (ch : Channel) (p : PreambleAddressCode) (t : Bool) → leb p.row 14 ≡ t → Says true (as_command f ch (cond t (answer (preamble_bytes p)) (refused 3)))
 preamble_goes_out f ch p true e = goes_out f ch (preamble_bytes p) (preamble_says p (omega (arith, leb-true p.row 14 e)))
 preamble_goes_out f ch p false e = tt
 
-unknown_goes_out : (f : CodeField) (ch : Channel) (a b : ℕ) (t : Bool) → (is_seven_bits a && is_seven_bits b) ≡ t → Says (is_command a) (as_command f ch (cond t (answer (pair a b)) (refused 2)))
+unknown_goes_out : (f : Option Field) (ch : Channel) (a b : ℕ) (t : Bool) → (is_seven_bits a && is_seven_bits b) ≡ t → Says (is_command a) (as_command f ch (cond t (answer (pair a b)) (refused 2)))
 unknown_goes_out f ch a b true e = line_says f ch (pair a b) (ltb-true a 0x80 (both_left (is_seven_bits a) (is_seven_bits b) e))
 unknown_goes_out f ch a b false e = tt
 
-control_says : (f : CodeField) (ch : Channel) (c : Control) → Says (is_command_control c) (as_command f ch (control_bytes c))
+control_says : (f : Option Field) (ch : Channel) (c : Control) → Says (is_command_control c) (as_command f ch (control_bytes c))
 unfolding control_bytes
 control_says f ch (control.MidRow m) = goes_out f ch (mid_row_bytes m) refl
 control_says f ch (control.Symbol s) = goes_out f ch (symbol_bytes s) (symbol_says s)

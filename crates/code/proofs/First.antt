@@ -1,8 +1,13 @@
 -- The first entry of a table that has a given number, determined by the entries.
 -- Assumes nothing.
+use Rattle.std.specs.List as library
+use Rattle.std.specs.List.{position_or_len}
+use Rattle.std.proofs.lemmas.Bool.{lt-ltb, le-ltb, ltb-true, ltb-false}
+use lib.Dec.{eqb, ltb}
+use Prim.Native.Nat.{◌+◌}
 use mathlib.Core.Path.{◌≡◌, refl, sym, ap, ◌∙◌}
 use mathlib.Core.List.{List, [], ◌∷◌, map}
-use mathlib.Core.Bool.{Bool, true, false, cond}
+use mathlib.Core.Bool.{Bool, true, false, cond, not}
 use Rattle.std.specs.Prelude.{Option, None, Some}
 use Rattle.std.proofs.lemmas.Option.{none-some, same_Some}
 use Prim.Native.Nat.{ℕ, zero, suc, ◌<◌}
@@ -11,24 +16,7 @@ use native.Mathlib.Omega.{arith}
 use borrow.Author.Tests.{eq-eqb, ne_eqb}
 use lib.ListN.{length, get_or}
 use Rattle.code.specs.Position.{first_place, later, position}
-use Rattle.code.specs.Tables.{found_at, point_of}
-use Rattle.code.specs.declared.tables.Found.{Found}
-use Rattle.code.specs.declared.tables.Found.TheVariants.{At, Absent}
-
--- entry i has x, and none before it has
-pub first_at : (f : ℕ → ℕ) (x : ℕ) (t : List ℕ) (i : ℕ) → i < length t → f (get_or t i 0) ≡ x → ((k : ℕ) → k < i → f (get_or t k 0) ≡ x → ⊥) → position x (map f t) ≡ Some i
-first_at f x [] i h e none_before = absurd (not-suc-le-zero h)
-first_at f x (y ∷ ys) zero h e none_before = rw (eq-eqb x (f y) (sym e))
-first_at f x (y ∷ ys) (suc i) h e none_before =
-    rw (ne_eqb x (f y) (λ (p : x ≡ f y). none_before 0 (zero-lt-suc i) (sym p)))
-    (ap later (first_at f x ys i (le_of_suc-le-suc h) e (λ k less p. none_before (suc k) (suc-le-suc_iff.1 less) p)))
-
--- no entry has x
-pub first_none : (f : ℕ → ℕ) (x : ℕ) (t : List ℕ) → ((k : ℕ) → k < length t → f (get_or t k 0) ≡ x → ⊥) → position x (map f t) ≡ None
-first_none f x [] nowhere = refl
-first_none f x (y ∷ ys) nowhere =
-    rw (ne_eqb x (f y) (λ (p : x ≡ f y). nowhere 0 (zero-lt-suc (length ys)) (sym p)))
-    (ap later (first_none f x ys (λ k less p. nowhere (suc k) (suc-le-suc_iff.1 less) p)))
+use Rattle.code.specs.Tables.{point_of}
 
 inside_later : (n i : ℕ) (o : Option ℕ) → ((j : ℕ) → o ≡ Some j → j < n) → later o ≡ Some i → i < suc n
 inside_later n i None inside e = absurd (none-some i e)
@@ -56,22 +44,26 @@ first_passes test [] d i e = absurd (none-some i e)
 first_passes test (y ∷ ys) d i e =
     passes_by test y ys d i (test y) refl (λ j p. first_passes test ys d j p) e
 
--- what a search reports determines the place
-found_some : (o : Option ℕ) (i : ℕ) → found_at o ≡ At i → o ≡ Some i
-found_some None i e = let z : ◌≡◌ {A = ℕ} 0 1 = cc in absurd (omega arith)
-found_some (Some j) i e = cc
+-- the library's search finds the definition's place
+counted : (k n : ℕ) (b : Bool) → ltb k n ≡ b → cond (ltb (1 + k) (suc n)) (Some (1 + k)) None ≡ later (cond b (Some k) None)
+counted k n true is = rw (lt-ltb (1 + k) (suc n) (omega (arith, ltb-true k n is))) (ap Some (omega arith))
+counted k n false is = rw (le-ltb (1 + k) (suc n) (omega (arith, ltb-false k n is))) refl
 
-found_none : (o : Option ℕ) → found_at o ≡ Absent → o ≡ None
-found_none None e = refl
-found_none (Some j) e = let z : ◌≡◌ {A = ℕ} 0 1 = cc in absurd (omega arith)
+placed : (t : Bool) (k n : ℕ) (o : Option ℕ) → cond (ltb k n) (Some k) None ≡ o → cond (ltb (cond (not t) (1 + k) 0) (suc n)) (Some (cond (not t) (1 + k) 0)) None ≡ cond t (Some zero) (later o)
+placed true k n o e = rw (lt-ltb 0 (suc n) (zero-lt-suc n)) refl
+placed false k n o e = counted k n (ltb k n) refl ∙ ap later e
 
--- a search over a table of code points that is the definition's table is a search over that one
-searched : (x : ℕ) (table entries : List ℕ) (r : Found) → r ≡ found_at (position x (map point_of table)) → table ≡ entries → found_at (position x (map point_of entries)) ≡ r
-searched x table entries r is same = sym (is ∙ ap (λ (t : List ℕ). found_at (position x (map point_of t))) same)
+pub by_library : {A : Type 0} (test : A → Bool) (l : List A) → library.position test l ≡ first_place test l
+by_library test [] = refl
+by_library test (x ∷ xs) = placed (test x) (position_or_len test xs) (length xs) (first_place test xs) (by_library test xs)
 
--- so it finds a place of the definition's table, or none
-pub searched_some : (x i : ℕ) (table entries : List ℕ) → At i ≡ found_at (position x (map point_of table)) → table ≡ entries → position x (map point_of entries) ≡ Some i
-searched_some x i table entries is same = found_some (position x (map point_of entries)) i (searched x table entries (At i) is same)
+over_points : (x : ℕ) (l : List ℕ) → first_place (λ (e : ℕ). eqb x (point_of e)) l ≡ position x (map point_of l)
+over_points x [] = refl
+over_points x (e ∷ l) = ap (λ (o : Option ℕ). cond (eqb x (point_of e)) (Some zero) (later o)) (over_points x l)
 
-pub searched_none : (x : ℕ) (table entries : List ℕ) → Absent ≡ found_at (position x (map point_of table)) → table ≡ entries → position x (map point_of entries) ≡ None
-searched_none x table entries is same = found_none (position x (map point_of entries)) (searched x table entries Absent is same)
+-- so a search over a table that is the definition's finds the place of a code point in that one
+pub searched : (x : ℕ) (table entries : List ℕ) (r : Option ℕ) → r ≡ library.position (λ (e : ℕ). eqb x (point_of e)) table → table ≡ entries → position x (map point_of entries) ≡ r
+searched x table entries r found same =
+    sym
+    (found ∙ by_library (λ (e : ℕ). eqb x (point_of e)) table ∙ over_points x table
+    ∙ ap (λ (t : List ℕ). position x (map point_of t)) same)

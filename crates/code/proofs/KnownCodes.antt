@@ -1,6 +1,7 @@
 -- The standard characters against ASCII, the symbols by their code points, numbers in the order of the codes, the indents by
 -- their columns, channels and fields by their numbers, and the refusal of each call by its number in 01.
 -- Assumes nothing.
+use Rattle.std.specs.Prelude.{None}
 use mathlib.Core.Bool.{Bool, false, cond}
 use mathlib.Core.List.{List, [], ◌∷◌, ◌++◌, map}
 use Rattle.std.specs.Prelude.{Some}
@@ -24,7 +25,6 @@ use Rattle.code.specs.Preamble.{from_indent, indent_in, new_preamble, style_of}
 use Rattle.code.specs.Read.{control_code_of, meaning, read_pair, single}
 use Rattle.code.specs.Symbol.{symbol_row_number, symbol_rows}
 use Rattle.code.specs.Write.{in_domain, write_code}
-use Rattle.code.specs.declared.character.Character.TheVariants.{Point, Absent}
 use Rattle.code.specs.declared.code.Code.TheVariants as code
 use Rattle.code.specs.declared.color.Color as color
 use Rattle.code.specs.declared.control.Tab.TheVariants.{TabOffset1, TabOffset2, TabOffset3}
@@ -32,15 +32,15 @@ use Rattle.code.specs.declared.preamble.PreambleType.{PreambleType}
 use Rattle.code.specs.declared.preamble.PreambleType.TheVariants.{Color, WhiteItalics}
 
 -- at every other byte of 20 to 7F the character is the byte's own
-pub ascii_elsewhere : (b : ℕ) → 0x20 ≤ b → b < 0x80 → is_not_ascii b ≡ false → char_of (single b) ≡ Point b
+pub ascii_elsewhere : (b : ℕ) → 0x20 ≤ b → b < 0x80 → is_not_ascii b ≡ false → char_of (single b) ≡ Some b
 unfolding standard char_of
 ascii_elsewhere b from below other =
-    sym (ap (λ t. cond t Absent (char_of (single b))) other)
-    ∙ agree_from (λ (x : ℕ). cond (is_not_ascii x) Absent (char_of (single x))) (λ (x : ℕ). cond (is_not_ascii x) Absent (Point x)) 0x20 0x60 refl b from
+    sym (ap (λ t. cond t None (char_of (single b))) other)
+    ∙ agree_from (λ (x : ℕ). cond (is_not_ascii x) None (char_of (single x))) (λ (x : ℕ). cond (is_not_ascii x) None (Some x)) 0x20 0x60 refl b from
     (omega (arith, below))
-    ∙ ap (λ t. cond t Absent (Point b)) other
+    ∙ ap (λ t. cond t None (Some b)) other
 
-pub instead_of_ascii : map (λ (x : Instead). char_of (single x.byte)) not_ascii ≡ map (λ (x : Instead). Point x.point) not_ascii
+pub instead_of_ascii : map (λ (x : Instead). char_of (single x.byte)) not_ascii ≡ map (λ (x : Instead). Some x.point) not_ascii
 unfolding standard char_of
 instead_of_ascii = refl
 

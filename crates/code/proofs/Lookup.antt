@@ -19,33 +19,30 @@ use Rattle.code.specs.Position.{later, position}
 use Rattle.code.specs.Symbol.{symbol_at}
 use Rattle.code.specs.Tables.{code_entries, control_entries, or_zero, point_of}
 use Rattle.code.specs.declared.channel.Channel.{Channel}
-use Rattle.code.specs.declared.character.Character.{Character}
-use Rattle.code.specs.declared.character.Character.TheVariants as character
 use Rattle.code.specs.declared.code.Code.TheVariants as code
-use Rattle.code.specs.declared.control.CodeField.TheVariants.{Absent}
 use Rattle.code.specs.declared.control.Control.TheVariants as control
 
 -- a character's place among the code points is its place among the characters
-same_test : (c : ℕ) (k : Character) → (c ≡ 0 → ⊥) → eqb c (or_zero k) ≡ is_point c k
-same_test c (character.Point d) h = refl
-same_test c character.Absent h = ne_eqb c 0 h
+same_test : (c : ℕ) (k : Option ℕ) → (c ≡ 0 → ⊥) → eqb c (or_zero k) ≡ is_point c k
+same_test c (Some d) h = refl
+same_test c None h = ne_eqb c 0 h
 
-point_place : (c : ℕ) (l : List Character) → (c ≡ 0 → ⊥) → position c (map or_zero l) ≡ place_of c l
+point_place : (c : ℕ) (l : List (Option ℕ)) → (c ≡ 0 → ⊥) → position c (map or_zero l) ≡ place_of c l
 point_place c [] h = refl
 point_place c (k ∷ l) h = rw (same_test c k h, point_place c l h) refl
 
 -- a character is found among the symbols alone, since the commands and tabs after them have none
-none_in_empty : (c n : ℕ) → place_of c (replicate n character.Absent) ≡ None
+none_in_empty : (c n : ℕ) → place_of c (replicate n None) ≡ None
 none_in_empty c zero = refl
 none_in_empty c (suc n) = ap later (none_in_empty c n)
 
-before_empty : (c n : ℕ) (l : List Character) → place_of c (l ++ replicate n character.Absent) ≡ place_of c l
+before_empty : (c n : ℕ) (l : List (Option ℕ)) → place_of c (l ++ replicate n None) ≡ place_of c l
 before_empty c n [] = none_in_empty c n
 before_empty c n (y ∷ ys) = simp (before_empty c n ys)
 
 symbol_place_lem : (c : ℕ) → (c ≡ 0 → ⊥) → position c (map point_of control_entries) ≡ place_of c symbols
 unfolding control_entries symbols
-symbol_place_lem c h = point_place c (symbols ++ replicate 19 character.Absent) h ∙ before_empty c 19 symbols
+symbol_place_lem c h = point_place c (symbols ++ replicate 19 None) h ∙ before_empty c 19 symbols
 
 -- a standard character's entry is one after its place, since NUL comes first
 letter_entry : (c : ℕ) → (c ≡ 0 → ⊥) → position c (map point_of code_entries) ≡ later (place_of c standard)
@@ -62,7 +59,7 @@ module _ (c : ℕ) (ch : Channel) (some_character : c ≡ 0 → ⊥) where
   unfolding symbols
   symbol_inside i found = first_inside (is_point c) symbols i (sym (symbol_place_lem c some_character) ∙ found)
 
-  pub found_symbol : (i : ℕ) → position c (map point_of control_entries) ≡ Some i → answer (code.Control (record { field = Absent; channel = ch; control = control.Symbol (symbol_at i) })) ≡ symbol_code ch (place_of c symbols)
+  pub found_symbol : (i : ℕ) → position c (map point_of control_entries) ≡ Some i → answer (code.Control (record { field = None; channel = ch; control = control.Symbol (symbol_at i) })) ≡ symbol_code ch (place_of c symbols)
   found_symbol i found = let place : place_of c symbols ≡ Some i = sym (symbol_place_lem c some_character) ∙ found in rw place
 
   pub found_no_symbol : position c (map point_of control_entries) ≡ None → refused 5 ≡ symbol_code ch (place_of c symbols)

@@ -1,6 +1,7 @@
 -- What the two bytes of a control code mean, as the code decides it: a preamble by the rows of its first byte, the rest
 -- by the first byte and then the second's upper digit. One computation over all pairs shows that it is the definition.
 -- Assumes nothing.
+use Rattle.code.specs.declared.channel.Field.{Field}
 use mathlib.Core.Bool.{Bool, true, cond, ◌&&◌}
 use Rattle.std.specs.Prelude.{Option, None, Some}
 use mathlib.Core.Path.{◌≡◌, refl, ap, sym, ◌∙◌}
@@ -14,14 +15,11 @@ use Rattle.code.specs.Control.{command_at, names_field}
 use Rattle.code.specs.MidRow.{mid_row_at}
 use Rattle.code.specs.Preamble.{style_at}
 use Rattle.code.specs.Read.{channel_of, control_code_of, field_of, is_command, meaning, or_unknown, symbol_in, underlined, without_channel, without_field}
-use Rattle.code.specs.Tables.{first_row_at, meaning_of, tab_in}
+use Rattle.code.specs.Tables.{first_row_at, tab_in}
 use Rattle.code.specs.declared.channel.Channel.{Channel}
-use Rattle.code.specs.declared.control.CodeField.{CodeField}
 use Rattle.code.specs.declared.control.Control.{Control}
 use Rattle.code.specs.declared.control.Control.TheVariants as control
 use Rattle.code.specs.declared.control.ControlCode.{ControlCode}
-use Rattle.code.specs.declared.read.Meaning.{Meaning}
-use Rattle.code.specs.declared.read.Meaning.TheVariants as meant
 use Rattle.code.specs.declared.symbol.SymbolRow.TheVariants.{Special, Spanish, French, Portuguese, German}
 
 abbrev pub preamble_of : ℕ → ℕ → Option Control
@@ -50,15 +48,15 @@ unfolding meaning
 decided_is p b from below less = agree_grid decided meaning 16 8 128 refl p b from below less
 
 -- below 40 there is no preamble
-pub other_told : (p b : ℕ) (r : Meaning) → 16 ≤ p → p < 24 → b < 64 → r ≡ meaning_of (decided_other p b) → r ≡ meaning_of (meaning p b)
+pub other_told : (p b : ℕ) (r : Option Control) → 16 ≤ p → p < 24 → b < 64 → r ≡ decided_other p b → r ≡ meaning p b
 other_told p b r from below less found = simp (← decided_is p b from below (omega arith), lt-leb _ _ less, found)
 
 -- from 40 on there is nothing else
-pub row_told : (p b : ℕ) (r : Meaning) → 16 ≤ p → p < 24 → 64 ≤ b → b < 128 → r ≡ meaning_of (decided_row p b) → r ≡ meaning_of (meaning p b)
+pub row_told : (p b : ℕ) (r : Option Control) → 16 ≤ p → p < 24 → 64 ≤ b → b < 128 → r ≡ decided_row p b → r ≡ meaning p b
 row_told p b r from below up less found =
     found
-    ∙ sym (ap (λ (t : Bool). meaning_of (cond t (decided_row p b) (decided_other p b))) (le-leb 0x40 b up))
-    ∙ ap meaning_of (decided_is p b from below less)
+    ∙ sym (ap (λ (t : Bool). cond t (decided_row p b) (decided_other p b)) (le-leb 0x40 b up))
+    ∙ decided_is p b from below less
 
 -- 10 to 1F, by the upper digit
 pub in_row_one : (a : ℕ) → a < 128 → eqb (a / 16) 1 ≡ is_command a
@@ -77,18 +75,10 @@ pub without_field_between : (p b : ℕ) → 16 ≤ p → p < 24 → (16 ≤ with
 without_field_between p b from below = still_between (names_field b && eqb p 0x15) 0x14 p (lit≤ tt, lit< tt) (from, below)
 
 -- a control code put together from its parts
-abbrev pub meant_or : ℕ → ℕ → Meaning → Control
-meant_or a b (meant.Of c) = c
-meant_or a b meant.Absent = control.Unknown a b
-
-said_is : (a b : ℕ) (o : Option Control) → meant_or a b (meaning_of o) ≡ or_unknown a b o
-said_is a b None = refl
-said_is a b (Some c) = refl
-
-pub parsed : (a b p : ℕ) (ch : Channel) (f : CodeField) (r : Meaning) → 16 ≤ a → a < 32 → ch ≡ channel_of a → f ≡ field_of (a % 8 + 16) b → p ≡ without_field (a % 8 + 16) b → r ≡ meaning_of (meaning p b) → ◌≡◌ {A = ControlCode} (record { field = f; channel = ch; control = meant_or a b r }) (control_code_of a b)
+pub parsed : (a b p : ℕ) (ch : Channel) (f : Option Field) (r : Option Control) → 16 ≤ a → a < 32 → ch ≡ channel_of a → f ≡ field_of (a % 8 + 16) b → p ≡ without_field (a % 8 + 16) b → r ≡ meaning p b → ◌≡◌ {A = ControlCode} (record { field = f; channel = ch; control = or_unknown a b r }) (control_code_of a b)
 unfolding control_code_of
 parsed a b p ch f r from below of_channel field prefix found =
-    simp (found, prefix, field, of_channel, said_is, without_channel_lem a from below)
+    simp (found, prefix, field, of_channel, without_channel_lem a from below)
 
 -- a first byte's second row is at most 14
 pub first_row_small : (n : ℕ) → n < 8 → first_row_at n < 14

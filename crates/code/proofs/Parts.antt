@@ -23,14 +23,13 @@ use Rattle.code.specs.declared.channel.Channel.{Channel}
 use Rattle.code.specs.declared.channel.Field.{Field}
 use Rattle.code.specs.declared.color.Color.{Color}
 use Rattle.code.specs.declared.color.Color.TheVariants.{White}
-use Rattle.code.specs.declared.control.CodeField.TheVariants.{Of}
 use Rattle.code.specs.declared.control.Control.{Control}
 use Rattle.code.specs.declared.preamble.PreambleAddressCode.{PreambleAddressCode}
 use Rattle.code.specs.declared.preamble.PreambleType.{PreambleType}
 use Rattle.code.specs.declared.preamble.PreambleType.TheVariants as style
 
 -- a control code
-pub control_code_parts : (f : Field) (ch : Channel) (c : Control) → (field_in (control_code f ch c) ≡ Of f) × (channel_in (control_code f ch c) ≡ ch) × (control_in (control_code f ch c) ≡ c)
+pub control_code_parts : (f : Field) (ch : Channel) (c : Control) → (field_in (control_code f ch c) ≡ Some f) × (channel_in (control_code f ch c) ≡ ch) × (control_in (control_code f ch c) ≡ c)
 control_code_parts f ch c = (refl, refl, refl)
 
 -- mid-row codes: a colour, which ends italics, and italics, which leave the colour

@@ -2,6 +2,7 @@
 -- bytes name, and single codes as they were. With `RoundTrip`, which goes from pairs to codes and back, this goes from codes to pairs and
 -- back.
 -- Assumes nothing.
+use Rattle.code.specs.declared.channel.Field.{Field}
 use mathlib.Core.Bool.{Bool, true, false, ◌&&◌, true≢false}
 use Rattle.std.specs.Prelude.{Option, None, Some}
 use Rattle.std.proofs.lemmas.Option.{none-some}
@@ -29,8 +30,6 @@ use Rattle.code.specs.Write.{as_single, command_bytes, control_bytes, is_field_t
 use Rattle.code.specs.declared.channel.Channel.{Channel}
 use Rattle.code.specs.declared.code.Code.{Code}
 use Rattle.code.specs.declared.code.Code.TheVariants as code
-use Rattle.code.specs.declared.control.CodeField.{CodeField}
-use Rattle.code.specs.declared.control.CodeField.TheVariants.{Of, Absent}
 use Rattle.code.specs.declared.control.Command.{Command}
 use Rattle.code.specs.declared.control.Control.{Control}
 use Rattle.code.specs.declared.control.Control.TheVariants as control
@@ -60,43 +59,43 @@ abbrev if_meant : Option Control → Option Control → Option Control
 if_meant None m = None
 if_meant (Some c) m = m
 
-abbrev read_as : CodeField → ℕ → ℕ → Option Control
+abbrev read_as : Option Field → ℕ → ℕ → Option Control
 read_as f a b = meaning (without_field (with_field f (pair a b)) b) b
 
-field_back : (f : CodeField) (a b : ℕ) → 16 ≤ a → a < 24 → b < 128 → if_meant (meaning a b) (read_as f a b) ≡ meaning a b
+field_back : (f : Option Field) (a b : ℕ) → 16 ≤ a → a < 24 → b < 128 → if_meant (meaning a b) (read_as f a b) ≡ meaning a b
 unfolding meaning
-field_back Absent a b from below less =
-    agree_grid (λ (x y : ℕ). if_meant (meaning x y) (read_as Absent x y)) meaning 16 8 128 refl a b from below less
-field_back (Of f) a b from below less = named f.0
+field_back None a b from below less =
+    agree_grid (λ (x y : ℕ). if_meant (meaning x y) (read_as None x y)) meaning 16 8 128 refl a b from below less
+field_back (Some f) a b from below less = named f.0
   where
-    named : (t : Bool) → if_meant (meaning a b) (read_as (Of (record { 0 = t })) a b) ≡ meaning a b
-    named true = agree_grid (λ (x y : ℕ). if_meant (meaning x y) (read_as (Of field_one) x y)) meaning 16 8 128 refl a b from below less
-    named false = agree_grid (λ (x y : ℕ). if_meant (meaning x y) (read_as (Of field_two) x y)) meaning 16 8 128 refl a b from below less
+    named : (t : Bool) → if_meant (meaning a b) (read_as (Some (record { 0 = t })) a b) ≡ meaning a b
+    named true = agree_grid (λ (x y : ℕ). if_meant (meaning x y) (read_as (Some field_one) x y)) meaning 16 8 128 refl a b from below less
+    named false = agree_grid (λ (x y : ℕ). if_meant (meaning x y) (read_as (Some field_two) x y)) meaning 16 8 128 refl a b from below less
 
 -- the field that is read, where the bytes mean something
-abbrev if_meant_field : Option Control → CodeField → CodeField
-if_meant_field None f = Absent
+abbrev if_meant_field : Option Control → Option Field → Option Field
+if_meant_field None f = None
 if_meant_field (Some c) f = f
 
-abbrev field_meant : CodeField → Option Control → CodeField
-field_meant f None = Absent
+abbrev field_meant : Option Field → Option Control → Option Field
+field_meant f None = None
 field_meant f (Some c) = field_read f c
 
-abbrev field_written : CodeField → ℕ → ℕ → CodeField
+abbrev field_written : Option Field → ℕ → ℕ → Option Field
 field_written f a b = field_of (with_field f (pair a b)) b
 
-field_meant_lem : (f : CodeField) (a b : ℕ) → 16 ≤ a → a < 24 → b < 128 → if_meant_field (meaning a b) (field_written f a b) ≡ field_meant f (meaning a b)
+field_meant_lem : (f : Option Field) (a b : ℕ) → 16 ≤ a → a < 24 → b < 128 → if_meant_field (meaning a b) (field_written f a b) ≡ field_meant f (meaning a b)
 unfolding meaning
-field_meant_lem Absent a b from below less =
-    agree_grid (λ (x y : ℕ). if_meant_field (meaning x y) (field_written Absent x y)) (λ (x y : ℕ). field_meant Absent (meaning x y)) 16 8 128 refl a b from below less
-field_meant_lem (Of f) a b from below less = named f.0
+field_meant_lem None a b from below less =
+    agree_grid (λ (x y : ℕ). if_meant_field (meaning x y) (field_written None x y)) (λ (x y : ℕ). field_meant None (meaning x y)) 16 8 128 refl a b from below less
+field_meant_lem (Some f) a b from below less = named f.0
   where
-    named : (t : Bool) → if_meant_field (meaning a b) (field_written (Of (record { 0 = t })) a b) ≡ field_meant (Of (record { 0 = t })) (meaning a b)
-    named true = agree_grid (λ (x y : ℕ). if_meant_field (meaning x y) (field_written (Of field_one) x y)) (λ (x y : ℕ). field_meant (Of field_one) (meaning x y)) 16 8 128 refl a b from below less
-    named false = agree_grid (λ (x y : ℕ). if_meant_field (meaning x y) (field_written (Of field_two) x y)) (λ (x y : ℕ). field_meant (Of field_two) (meaning x y)) 16 8 128 refl a b from below less
+    named : (t : Bool) → if_meant_field (meaning a b) (field_written (Some (record { 0 = t })) a b) ≡ field_meant (Some (record { 0 = t })) (meaning a b)
+    named true = agree_grid (λ (x y : ℕ). if_meant_field (meaning x y) (field_written (Some field_one) x y)) (λ (x y : ℕ). field_meant (Some field_one) (meaning x y)) 16 8 128 refl a b from below less
+    named false = agree_grid (λ (x y : ℕ). if_meant_field (meaning x y) (field_written (Some field_two) x y)) (λ (x y : ℕ). field_meant (Some field_two) (meaning x y)) 16 8 128 refl a b from below less
 
 -- 14 becomes 15 at most, so that the first byte stays between 10 and 17
-field_between : (f : CodeField) (a b : ℕ) → 16 ≤ a → a < 24 → (16 ≤ with_field f (pair a b)) × (with_field f (pair a b) < 24)
+field_between : (f : Option Field) (a b : ℕ) → 16 ≤ a → a < 24 → (16 ≤ with_field f (pair a b)) × (with_field f (pair a b) < 24)
 field_between f a b from below = still_between (is_field_two f && eqb a 0x14 && names_field b) 0x15 a (lit≤ tt, lit< tt) (from, below)
 
 channel_between : (ch : Bool) (a : ℕ) → 16 ≤ a → a < 24 → (is_command (with_channel (record { 0 = ch }) a) ≡ true) × (stripped (with_channel (record { 0 = ch }) a) ≡ with_channel (record { 0 = ch }) a)
@@ -110,7 +109,7 @@ channel_between false a from below = (
 )
 
 -- two bytes that mean a control, as they are written and read
-module _ (f : CodeField) (ch : Channel) (a b : ℕ) (c : Control) (from : 16 ≤ a) (below : a < 24) (less : b < 128) (means : meaning a b ≡ Some c) where
+module _ (f : Option Field) (ch : Channel) (a b : ℕ) (c : Control) (from : 16 ≤ a) (below : a < 24) (less : b < 128) (means : meaning a b ≡ Some c) where
   abbrev named : ℕ
   named = with_field f (pair a b)
 
@@ -141,7 +140,7 @@ module _ (f : CodeField) (ch : Channel) (a b : ℕ) (c : Control) (from : 16 ≤
   command_back : control_code_of first_byte b ≡ back
   unfolding control_code_of
   command_back =
-      ap (λ (g : CodeField). record { field = g; channel = channel_of first_byte; control = or_unknown first_byte b (meaning (without_field (without_channel first_byte) b) b) }) field_again
+      ap (λ (g : Option Field). record { field = g; channel = channel_of first_byte; control = or_unknown first_byte b (meaning (without_field (without_channel first_byte) b) b) }) field_again
       ∙ ap₂ {C = ControlCode} (λ (d : Channel) (m : Option Control). record { field = field_read f c; channel = d; control = or_unknown first_byte b m })
       (channel_kept ch.0 named inside.0 inside.1) means_again
 
@@ -173,7 +172,7 @@ first_below a b c true e to less means = ltb-true a 24 e
 first_below a b c false e to less means =
     absurd (none-some c (sym (none_above a b (ltb-false a 24 e) to less) ∙ means))
 
-by_bytes : (f : CodeField) (ch : Channel) (c : Control) (p : Pair) → control_bytes c ≡ answer p → is_pair_of_control p ≡ true → meant p ≡ Some c → ReadsBack f ch c
+by_bytes : (f : Option Field) (ch : Channel) (c : Control) (p : Pair) → control_bytes c ≡ answer p → is_pair_of_control p ≡ true → meant p ≡ Some c → ReadsBack f ch c
 by_bytes f ch c p bytes fits means =
     let both = both_true (is_command p.0) (is_seven_bits p.1) fits in
     let first = command_range p.0 both.0 in
@@ -187,24 +186,24 @@ by_bytes f ch c p bytes fits means =
       is_a_command = sent_as_command f ch p.0 p.1 c from below less means;
     }
 
-pub mid_row_reads_back : (f : CodeField) (ch : Channel) (m : MidRow) → ReadsBack f ch (control.MidRow m)
+pub mid_row_reads_back : (f : Option Field) (ch : Channel) (m : MidRow) → ReadsBack f ch (control.MidRow m)
 unfolding control_bytes
 mid_row_reads_back f ch m = by_bytes f ch (control.MidRow m) (mid_row_bytes m) refl (mid_row_pair m) (mid_row_meant m)
 
-pub symbol_reads_back : (f : CodeField) (ch : Channel) (s : Symbol) → ReadsBack f ch (control.Symbol s)
+pub symbol_reads_back : (f : Option Field) (ch : Channel) (s : Symbol) → ReadsBack f ch (control.Symbol s)
 unfolding control_bytes
 symbol_reads_back f ch s = by_bytes f ch (control.Symbol s) (symbol_bytes s) refl (symbol_pair s) (symbol_meant s)
 
-pub command_reads_back : (f : CodeField) (ch : Channel) (c : Command) → ReadsBack f ch (control.Command c)
+pub command_reads_back : (f : Option Field) (ch : Channel) (c : Command) → ReadsBack f ch (control.Command c)
 unfolding control_bytes
 command_reads_back f ch c =
     by_bytes f ch (control.Command c) (command_bytes c) refl (command_pair c) (command_meant c)
 
-pub tab_reads_back : (f : CodeField) (ch : Channel) (t : Tab) → ReadsBack f ch (control.Tab t)
+pub tab_reads_back : (f : Option Field) (ch : Channel) (t : Tab) → ReadsBack f ch (control.Tab t)
 unfolding control_bytes
 tab_reads_back f ch t = by_bytes f ch (control.Tab t) (tab_bytes t) refl (tab_pair t) (tab_meant t)
 
-pub preamble_reads_back : (f : CodeField) (ch : Channel) (p : PreambleAddressCode) → p.row < 15 → ReadsBack f ch (control.Preamble p)
+pub preamble_reads_back : (f : Option Field) (ch : Channel) (p : PreambleAddressCode) → p.row < 15 → ReadsBack f ch (control.Preamble p)
 unfolding control_bytes
 preamble_reads_back f ch p inside =
     by_bytes f ch (control.Preamble p) (preamble_bytes p) (rw (le-leb p.row 14 (omega arith)) refl) (preamble_pair p inside)

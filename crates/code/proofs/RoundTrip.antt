@@ -1,5 +1,7 @@
 -- Every pair of odd parity, read and written again, gives its own two bytes; and of the 65,536 pairs 16,384 pass.
 -- Assumes nothing.
+use Rattle.std.specs.Prelude.{Option}
+use Rattle.code.specs.declared.channel.Field.{Field}
 use mathlib.Core.Bool.{Bool, true, false, cond, ◌&&◌}
 use mathlib.Core.Path.{◌≡◌, refl, ap, sym, ◌∙◌}
 use Prim.Native.Nat.{ℕ, zero, suc, ◌≤◌, ◌<◌}
@@ -20,7 +22,6 @@ use Rattle.code.specs.Write.{as_command, as_single, control_bytes, on_line, prea
 use Rattle.code.specs.declared.channel.Channel.{Channel}
 use Rattle.code.specs.declared.code.Code.{Code}
 use Rattle.code.specs.declared.code.Code.TheVariants as code
-use Rattle.code.specs.declared.control.CodeField.{CodeField}
 use Rattle.code.specs.declared.control.Control.TheVariants as control
 use Rattle.code.specs.declared.pair.Pair.{Pair}
 use Rattle.code.specs.declared.preamble.PreambleAddressCode.{PreambleAddressCode}
@@ -76,7 +77,7 @@ read_then_write a b la lb odd =
     ∙ ap answer (rw (parity_back a la h.0, parity_back b lb h.1)))
 
 -- a command that was read can be written, so that its row, if it has one, is one of the fifteen
-bytes_of_answer : (f : CodeField) (ch : Channel) (o : Outcome Pair) (x : Pair × ℕ) → as_command f ch o ≡ answer x → (p : Pair) × (o ≡ answer p)
+bytes_of_answer : (f : Option Field) (ch : Channel) (o : Outcome Pair) (x : Pair × ℕ) → as_command f ch o ≡ answer x → (p : Pair) × (o ≡ answer p)
 bytes_of_answer f ch (answer p) x e = (p, refl)
 bytes_of_answer f ch (refused n) x e = absurd (clash (sym e))
 

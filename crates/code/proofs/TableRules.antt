@@ -17,8 +17,6 @@ use Rattle.code.specs.Preamble.{row_prefix, row_prefixes}
 use Rattle.code.specs.Read.{meaning, single}
 use Rattle.code.specs.Tables.{bytes_of, code_at, code_entries, control_at, control_entries, two_bytes}
 use Rattle.code.specs.Write.{as_single, control_bytes, write_code}
-use Rattle.code.specs.declared.character.Character.{Character}
-use Rattle.code.specs.declared.character.Character.TheVariants as character
 
 pub characters_rise : Increasing code_entries
 unfolding code_entries standard
@@ -59,25 +57,25 @@ pub row_back : (row : ℕ) → row < 15 → first_place (same_pair (row_prefix r
 row_back row less = agree (λ (x : ℕ). first_place (same_pair (row_prefix x)) row_prefixes) (λ (x : ℕ). Some x) 15 refl row less
 
 -- a character's first place is its only one, and no symbol is a standard character
-abbrev pub first_place_of : List Character → Character → Option ℕ
-first_place_of l (character.Point c) = place_of c l
-first_place_of l character.Absent = None
+abbrev pub first_place_of : List (Option ℕ) → Option ℕ → Option ℕ
+first_place_of l (Some c) = place_of c l
+first_place_of l None = None
 
-pub letter_once : (n : ℕ) → n < 96 → first_place_of standard (get_or standard n character.Absent) ≡ Some n
+pub letter_once : (n : ℕ) → n < 96 → first_place_of standard (get_or standard n None) ≡ Some n
 unfolding standard
-letter_once n less = agree (λ (x : ℕ). first_place_of standard (get_or standard x character.Absent)) (λ (x : ℕ). Some x) 96 refl n less
+letter_once n less = agree (λ (x : ℕ). first_place_of standard (get_or standard x None)) (λ (x : ℕ). Some x) 96 refl n less
 
-abbrev only_at : ℕ → Character → Option ℕ
-only_at n (character.Point c) = Some n
-only_at n character.Absent = None
+abbrev only_at : ℕ → Option ℕ → Option ℕ
+only_at n (Some c) = Some n
+only_at n None = None
 
-pub symbol_once : (n c : ℕ) → n < 80 → get_or symbols n character.Absent ≡ character.Point c → place_of c symbols ≡ Some n
+pub symbol_once : (n c : ℕ) → n < 80 → get_or symbols n None ≡ Some c → place_of c symbols ≡ Some n
 unfolding symbols
 symbol_once n c less e =
     sym (ap (first_place_of symbols) e)
-    ∙ agree (λ (x : ℕ). first_place_of symbols (get_or symbols x character.Absent)) (λ (x : ℕ). only_at x (get_or symbols x character.Absent)) 80 refl n less
+    ∙ agree (λ (x : ℕ). first_place_of symbols (get_or symbols x None)) (λ (x : ℕ). only_at x (get_or symbols x None)) 80 refl n less
     ∙ ap (only_at n) e
 
-pub symbol_apart : (n : ℕ) → n < 80 → first_place_of standard (get_or symbols n character.Absent) ≡ None
+pub symbol_apart : (n : ℕ) → n < 80 → first_place_of standard (get_or symbols n None) ≡ None
 unfolding standard symbols
-symbol_apart n less = agree (λ (x : ℕ). first_place_of standard (get_or symbols x character.Absent)) (λ (x : ℕ). None) 80 refl n less
+symbol_apart n less = agree (λ (x : ℕ). first_place_of standard (get_or symbols x None)) (λ (x : ℕ). None) 80 refl n less

@@ -1,6 +1,8 @@
 -- What is known of a written pair, and all that the layers above know of one: both bytes have odd parity, the length is
 -- the code's, and the first stripped byte decides whether the pair is read as a command or as two single codes.
 -- Assumes nothing.
+use Rattle.std.specs.Prelude.{Option}
+use Rattle.code.specs.declared.channel.Field.{Field}
 use mathlib.Core.Bool.{Bool, true, false, cond, ◌&&◌}
 use mathlib.Core.Path.{◌≡◌, refl, ap, subst, sym}
 use Prim.Native.Nat.{ℕ, ◌+◌, ◌-◌, ◌<◌}
@@ -19,7 +21,6 @@ use Rattle.code.specs.Write.{as_command, as_single, control_bytes, control_in_do
 use Rattle.code.specs.declared.channel.Channel.{Channel}
 use Rattle.code.specs.declared.code.Code.{Code}
 use Rattle.code.specs.declared.code.Code.TheVariants as code
-use Rattle.code.specs.declared.control.CodeField.{CodeField}
 use Rattle.code.specs.declared.control.ControlCode.{ControlCode}
 use Rattle.code.specs.declared.control.Control.{Control}
 use Rattle.code.specs.declared.control.Control.TheVariants as control
@@ -57,7 +58,7 @@ abbrev pub Good : ℕ → Outcome (Pair × ℕ) → Type 0
 Good n (answer x) = SentPair x.0 × (x.1 ≡ n)
 Good n (refused k) = Unit
 
-good_command : (f : CodeField) (c : Channel) (o : Outcome Pair) → Good 2 (as_command f c o)
+good_command : (f : Option Field) (c : Channel) (o : Outcome Pair) → Good 2 (as_command f c o)
 unfolding on_line
 good_command f c (answer p) = (record { first = with_parity_lem _; second = with_parity_lem _ }, refl)
 good_command f c (refused n) = tt
@@ -107,11 +108,11 @@ tested : (t : Bool) (x : Outcome (Pair × ℕ)) (n : ℕ) → settled x ≡ answ
 tested true x n e = sym e
 tested false x n e = refl
 
-bytes_settled : (f : CodeField) (c : Channel) (t : Bool) (p : Pair) (n : ℕ) → cond t (answer tt) (refused n) ≡ settled (as_command f c (cond t (answer p) (refused n)))
+bytes_settled : (f : Option Field) (c : Channel) (t : Bool) (p : Pair) (n : ℕ) → cond t (answer tt) (refused n) ≡ settled (as_command f c (cond t (answer p) (refused n)))
 bytes_settled f c true p n = refl
 bytes_settled f c false p n = refl
 
-control_settled : (f : CodeField) (ch : Channel) (c : Control) → control_in_domain c ≡ settled (as_command f ch (control_bytes c))
+control_settled : (f : Option Field) (ch : Channel) (c : Control) → control_in_domain c ≡ settled (as_command f ch (control_bytes c))
 unfolding control_bytes
 control_settled f ch (control.MidRow m) = refl
 control_settled f ch (control.Symbol s) = refl

@@ -1,14 +1,14 @@
 -- What is known of every pair that is read as a command by its two stripped bytes: its channel, its field, what an
 -- `Unknown` holds, and whether it needs a backspace. From 01's "Pairs and codes"; `every_command` in proofs/ByBytes.antt is
 -- the law. The bytes are spelled here, and not taken from the definitions that they hold.
+use Rattle.std.specs.Prelude.{None, Option, Some}
+use Rattle.code.specs.declared.channel.Field.{Field}
 use Rattle.std.specs.Prelude.{ℕ, ◌+◌, Bool, cond, ◌&&◌, ◌||◌, ◌≡◌, eqb}
 use Rattle.code.specs.Channel.{channel_one, channel_two, field_one, field_two}
 use Rattle.code.specs.Code.{needs_backspace}
 use Rattle.code.specs.Range.{within}
 use Rattle.code.specs.declared.channel.Channel.{Channel}
 use Rattle.code.specs.declared.code.Code.TheVariants as code
-use Rattle.code.specs.declared.control.CodeField.{CodeField}
-use Rattle.code.specs.declared.control.CodeField.TheVariants.{Of, Absent}
 use Rattle.code.specs.declared.control.Control.TheVariants as control
 use Rattle.code.specs.declared.control.ControlCode.{ControlCode}
 
@@ -21,9 +21,9 @@ abbrev pub on_either : ℕ → ℕ → Bool
 on_either p a = eqb a p || eqb a (p + 8)
 
 -- where 20 to 2F follow, 14 names field one and 15 field two; nothing else names a field
-abbrev pub field_by_bytes : ℕ → ℕ → CodeField
+abbrev pub field_by_bytes : ℕ → ℕ → Option Field
 field_by_bytes a b =
-    cond (within 0x20 0x2F b) (cond (on_either 0x14 a) (Of field_one) (cond (on_either 0x15 a) (Of field_two) Absent)) Absent
+    cond (within 0x20 0x2F b) (cond (on_either 0x14 a) (Some field_one) (cond (on_either 0x15 a) (Some field_two) None)) None
 
 -- the mid-row codes, 11 20 to 11 2F, and the extended characters, 12 20 to 12 3F and 13 20 to 13 3F
 abbrev pub backspace_by_bytes : ℕ → ℕ → Bool
@@ -34,5 +34,5 @@ backspace_by_bytes a b =
 pub record CommandOf (a b : ℕ) (c : ControlCode) : Type 0 where
   pub channel : c.channel ≡ channel_by_byte a
   pub field : c.field ≡ field_by_bytes a b
-  pub unknown : (x y : ℕ) → c.control ≡ control.Unknown x y → (x ≡ a) × (y ≡ b) × (c.field ≡ Absent)
+  pub unknown : (x y : ℕ) → c.control ≡ control.Unknown x y → (x ≡ a) × (y ≡ b) × (c.field ≡ None)
   pub backspace : needs_backspace (code.Control c) ≡ backspace_by_bytes a b

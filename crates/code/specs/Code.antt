@@ -1,19 +1,16 @@
 -- What else is known of a code, from 01: its length, whether the queue puts a space before it, its character, and the
 -- code of a character.
+use Rattle.std.specs.Prelude.{Result}
+use Rattle.code.specs.declared.character.NoSuchCharacter.{NoSuchCharacter}
 use Rattle.std.specs.Prelude.{ℕ, Bool, true, false, get_or}
 use Rattle.std.specs.Prelude.{Option, None, Some}
 use Rattle.code.specs.Characters.{place_of, standard, symbols}
 use Rattle.code.specs.Letter.{letter_at, letter_place}
-use Rattle.code.specs.Outcome.{Outcome, answer, refused}
+use Rattle.code.specs.Outcome.{Outcome, answer, outcome, refused}
 use Rattle.code.specs.Symbol.{symbol_at, symbol_place}
 use Rattle.code.specs.declared.channel.Channel.{Channel}
-use Rattle.code.specs.declared.character.Character.{Character}
-use Rattle.code.specs.declared.character.Character.TheVariants as character
-use Rattle.code.specs.declared.character.FromChar.{FromChar}
-use Rattle.code.specs.declared.character.FromChar.TheVariants.{Made, NoSuchCharacter}
 use Rattle.code.specs.declared.code.Code.{Code}
 use Rattle.code.specs.declared.code.Code.TheVariants as code
-use Rattle.code.specs.declared.control.CodeField.TheVariants.{Absent}
 use Rattle.code.specs.declared.control.Control.{Control}
 use Rattle.code.specs.declared.control.Control.TheVariants as control
 use Rattle.code.specs.declared.letter.Letter.{Letter}
@@ -52,32 +49,32 @@ needs_backspace (code.Letter l) = false
 needs_backspace (code.Unknown b) = false
 
 -- the character of a code, by the place of a letter or of a symbol; all others have none
-abbrev pub letter_char : Letter → Character
-letter_char l = get_or standard (letter_place l) character.Absent
+abbrev pub letter_char : Letter → Option ℕ
+letter_char l = get_or standard (letter_place l) None
 
-abbrev pub symbol_char : Symbol → Character
-symbol_char s = get_or symbols (symbol_place s) character.Absent
+abbrev pub symbol_char : Symbol → Option ℕ
+symbol_char s = get_or symbols (symbol_place s) None
 
-abbrev pub control_char : Control → Character
-control_char (control.MidRow m) = character.Absent
+abbrev pub control_char : Control → Option ℕ
+control_char (control.MidRow m) = None
 control_char (control.Symbol s) = symbol_char s
-control_char (control.Command c) = character.Absent
-control_char (control.Tab t) = character.Absent
-control_char (control.Preamble p) = character.Absent
-control_char (control.Unknown a b) = character.Absent
+control_char (control.Command c) = None
+control_char (control.Tab t) = None
+control_char (control.Preamble p) = None
+control_char (control.Unknown a b) = None
 
-unfoldable pub char_of : Code → Character
-char_of code.Nul = character.Absent
+unfoldable pub char_of : Code → Option ℕ
+char_of code.Nul = None
 char_of (code.Control c) = control_char c.control
 char_of (code.Letter l) = letter_char l
-char_of (code.Unknown b) = character.Absent
+char_of (code.Unknown b) = None
 
 -- a character's code: the first standard character that has it, else the first symbol, with no field and the given
 -- channel; 5: none has it
 abbrev pub symbol_code : Channel → Option ℕ → Outcome Code
 symbol_code ch None = refused 5
 symbol_code ch (Some i) =
-    answer (code.Control (record { field = Absent; channel = ch; control = control.Symbol (symbol_at i) }))
+    answer (code.Control (record { field = None; channel = ch; control = control.Symbol (symbol_at i) }))
 
 abbrev pub letter_code : Option ℕ → Outcome Code → Outcome Code
 letter_code None other = other
@@ -86,6 +83,5 @@ letter_code (Some i) other = answer (code.Letter (letter_at i))
 unfoldable pub from_char : ℕ → Channel → Outcome Code
 from_char c ch = letter_code (place_of c standard) (symbol_code ch (place_of c symbols))
 
-abbrev pub from_char_outcome : FromChar → Outcome Code
-from_char_outcome (Made x) = answer x
-from_char_outcome NoSuchCharacter = refused 5
+abbrev pub from_char_outcome : Result Code NoSuchCharacter → Outcome Code
+from_char_outcome r = outcome (λ e. 5) r

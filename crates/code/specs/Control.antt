@@ -1,38 +1,20 @@
 -- Control codes: the miscellaneous commands and the tab offsets, in the order of 47 CFR 79.101 (i). The field that a
 -- code may name is from CTA-608 as 01 has it; refusal 4 is 01's.
+use Rattle.std.specs.Prelude.{Result}
+use Rattle.code.specs.declared.control.NoSuchTab.{NoSuchTab}
+use Rattle.std.specs.Prelude.{Option, Some}
 use Rattle.std.specs.Prelude.{ℕ, Bool, cond, List, [], ◌∷◌, eqb, get_or}
-use Rattle.code.specs.Outcome.{Outcome, answer, refused}
+use Rattle.code.specs.Outcome.{Outcome, answer, outcome, refused}
 use Rattle.code.specs.Range.{within}
 use Rattle.code.specs.declared.channel.Channel.{Channel}
 use Rattle.code.specs.declared.channel.Field.{Field}
-use Rattle.code.specs.declared.control.CodeField.{CodeField}
-use Rattle.code.specs.declared.control.CodeField.TheVariants.{Of}
 use Rattle.code.specs.declared.control.Command.{Command}
-use Rattle.code.specs.declared.control.Command.TheVariants.{
-  ResumeCaptionLoading,
-  Backspace,
-  AlarmOff,
-  AlarmOn,
-  DeleteToEndOfRow,
-  RollUp2,
-  RollUp3,
-  RollUp4,
-  FlashOn,
-  ResumeDirectionCaptioning,
-  TextRestart,
-  ResumeTextDisplay,
-  EraseDisplayedMemory,
-  CarriageReturn,
-  EraseNonDisplayedMemory,
-  EndOfCaption,
-}
+use Rattle.code.specs.declared.control.Command.TheVariants.{ResumeCaptionLoading, Backspace, AlarmOff, AlarmOn, DeleteToEndOfRow, RollUp2, RollUp3, RollUp4, FlashOn, ResumeDirectionCaptioning, TextRestart, ResumeTextDisplay, EraseDisplayedMemory, CarriageReturn, EraseNonDisplayedMemory, EndOfCaption}
 use Rattle.code.specs.declared.control.Control.{Control}
 use Rattle.code.specs.declared.control.Control.TheVariants as control
 use Rattle.code.specs.declared.control.ControlCode.{ControlCode}
 use Rattle.code.specs.declared.control.Tab.{Tab}
 use Rattle.code.specs.declared.control.Tab.TheVariants.{TabOffset1, TabOffset2, TabOffset3}
-use Rattle.code.specs.declared.control.TabOffset.{TabOffset}
-use Rattle.code.specs.declared.control.TabOffset.TheVariants.{Made, NoSuchTab}
 
 -- 14 20 to 14 2F
 abbrev pub commands : List Command
@@ -75,21 +57,20 @@ tab_number TabOffset3 = 3
 abbrev pub tab_offset : ℕ → Outcome Control
 tab_offset n = cond (within 1 3 n) (answer (control.Tab (tab_of n))) (refused 4)
 
-abbrev pub tab_offset_outcome : TabOffset → Outcome Control
-tab_offset_outcome (Made c) = answer c
-tab_offset_outcome NoSuchTab = refused 4
+abbrev pub tab_offset_outcome : Result Control NoSuchTab → Outcome Control
+tab_offset_outcome r = outcome (λ e. 4) r
 
 -- where one of 20 to 2F follows, 14 names field one and 15 field two
 abbrev pub names_field : ℕ → Bool
 names_field b = within 0x20 0x2F b
 
 abbrev pub control_code : Field → Channel → Control → ControlCode
-control_code f ch c = record { field = Of f; channel = ch; control = c }
+control_code f ch c = record { field = Some f; channel = ch; control = c }
 
 abbrev pub channel_in : ControlCode → Channel
 channel_in c = c.channel
 
-abbrev pub field_in : ControlCode → CodeField
+abbrev pub field_in : ControlCode → Option Field
 field_in c = c.field
 
 abbrev pub control_in : ControlCode → Control

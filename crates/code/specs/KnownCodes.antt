@@ -2,26 +2,16 @@
 -- `event` has. It holds the definitions to the texts: the standard characters to ASCII, and at eleven bytes to 01; the symbols
 -- to the code points that the crate decides; the indents to 47 CFR 79.101 (h). proofs/KnownCodes.antt holds the definitions
 -- against these, and the refusal numbers against 01's.
+use Rattle.std.specs.Prelude.{None, Option, Some}
 use Rattle.std.specs.Prelude.{ℕ, zero, suc, Bool, false, ◌||◌, List, [], ◌∷◌, ◌++◌, map, eqb}
 use Rattle.code.specs.Code.{char_of}
 use Rattle.code.specs.Pair.{pair, plus}
 use Rattle.code.specs.Read.{control_code_of, single}
-use Rattle.code.specs.declared.character.Character.{Character}
-use Rattle.code.specs.declared.character.Character.TheVariants.{Point, Absent}
 use Rattle.code.specs.declared.code.Code.{Code}
 use Rattle.code.specs.declared.code.Code.TheVariants as code
 use Rattle.code.specs.declared.pair.Pair.{Pair}
 use Rattle.code.specs.declared.preamble.PreambleType.{PreambleType}
-use Rattle.code.specs.declared.preamble.PreambleType.TheVariants.{
-  Indent0,
-  Indent4,
-  Indent8,
-  Indent12,
-  Indent16,
-  Indent20,
-  Indent24,
-  Indent28,
-}
+use Rattle.code.specs.declared.preamble.PreambleType.TheVariants.{Indent0, Indent4, Indent8, Indent12, Indent16, Indent20, Indent24, Indent28}
 
 -- the standard characters are ASCII but at eleven bytes
 pub record Instead : Type 0 where
@@ -47,19 +37,19 @@ is_not_ascii b = is_among b not_ascii
 -- the symbols: sixteen characters by the pair of the first, and the second byte rises by one
 pub record Sixteen : Type 0 where
   pub first : Pair
-  pub characters : List Character
+  pub characters : List (Option ℕ)
 
-abbrev sixteen : ℕ → ℕ → List Character → Sixteen
+abbrev sixteen : ℕ → ℕ → List (Option ℕ) → Sixteen
 sixteen a b cs = record { first = pair a b; characters = cs }
 
-abbrev points : List ℕ → List Character
-points cs = map Point cs
+abbrev points : List ℕ → List (Option ℕ)
+points cs = map Some cs
 
 -- 11 30 to 11 3F: ® ° ½ ¿ ™ ¢ £ ♪ à, none at 11 39, è â ê î ô û
 abbrev special : Sixteen
 special =
     sixteen 0x11 0x30
-    (points (0xAE ∷ 0xB0 ∷ 0xBD ∷ 0xBF ∷ 0x2122 ∷ 0xA2 ∷ 0xA3 ∷ 0x266A ∷ 0xE0 ∷ []) ++ (Absent ∷ points (0xE8 ∷ 0xE2 ∷ 0xEA ∷ 0xEE ∷ 0xF4 ∷ 0xFB ∷ [])))
+    (points (0xAE ∷ 0xB0 ∷ 0xBD ∷ 0xBF ∷ 0x2122 ∷ 0xA2 ∷ 0xA3 ∷ 0x266A ∷ 0xE0 ∷ []) ++ (None ∷ points (0xE8 ∷ 0xE2 ∷ 0xEA ∷ 0xEE ∷ 0xF4 ∷ 0xFB ∷ [])))
 
 -- 12 20 to 12 2F: Á É Ó Ú Ü ü ‘ ¡ * ' — © ℠ • “ ”
 abbrev spanish : Sixteen
@@ -89,7 +79,7 @@ abbrev pub known_symbols : List Sixteen
 known_symbols = special ∷ spanish ∷ french ∷ portuguese ∷ german ∷ []
 
 -- the characters of n commands, from two stripped bytes on
-abbrev pub characters_from : Pair → ℕ → List Character
+abbrev pub characters_from : Pair → ℕ → List (Option ℕ)
 characters_from p zero = []
 characters_from p (suc n) = char_of (code.Control (control_code_of p.0 p.1)) ∷ characters_from (plus p 1) n
 

@@ -3,8 +3,6 @@ use Rattle.std.specs.Prelude.{ℕ, Bool, true, false, cond, ltb}
 use Rattle.std.specs.Prelude.{Option, None, Some}
 use Rattle.code.specs.Color.{color_at, color_number}
 use Rattle.code.specs.declared.color.Color.{Color}
-use Rattle.code.specs.declared.midrow.MaybeColor.{MaybeColor}
-use Rattle.code.specs.declared.midrow.MaybeColor.TheVariants as maybe
 use Rattle.code.specs.declared.midrow.MidRow.{MidRow}
 use Rattle.code.specs.declared.midrow.MidRowColor.{MidRowColor}
 use Rattle.code.specs.declared.midrow.MidRowColor.TheVariants as kind
@@ -33,10 +31,6 @@ kind_color kind.Italics = None
 
 abbrev pub color_in : MidRow → Option Color
 color_in m = kind_color m.color
-
-abbrev pub maybe_color_outcome : MaybeColor → Option Color
-maybe_color_outcome (maybe.Color c) = Some c
-maybe_color_outcome maybe.Absent = None
 
 abbrev pub kind_italic : MidRowColor → Bool
 kind_italic (kind.Color c) = false

@@ -1,6 +1,8 @@
 -- Codes by the names that they have here, each with its two stripped bytes, which are channel one's: commands, tabs, the
 -- rows and the columns of characters. From 47 CFR 79.101, and for extended characters from CTA-608. Whoever exchanges two
 -- names in a definition and in its code meets this list. proofs/NamedCodes.antt reads and writes them.
+use Rattle.std.specs.Prelude.{None, Option, Some}
+use Rattle.code.specs.declared.channel.Field.{Field}
 use Rattle.std.specs.Prelude.{ℕ, List, [], ◌∷◌, ◌++◌}
 use Rattle.code.specs.Channel.{channel_one, field_one}
 use Rattle.code.specs.Pair.{pair}
@@ -9,27 +11,8 @@ use Rattle.code.specs.declared.code.Code.{Code}
 use Rattle.code.specs.declared.code.Code.TheVariants as code
 use Rattle.code.specs.declared.column.Column.{Column}
 use Rattle.code.specs.declared.column.Column.TheVariants.{C0, C1, C2, C3, C4, C5, C6, C7, C8, C9, CA, CB, CC, CD, CE, CF}
-use Rattle.code.specs.declared.control.CodeField.{CodeField}
-use Rattle.code.specs.declared.control.CodeField.TheVariants.{Of, Absent}
 use Rattle.code.specs.declared.control.Command.{Command}
-use Rattle.code.specs.declared.control.Command.TheVariants.{
-  ResumeCaptionLoading,
-  Backspace,
-  AlarmOff,
-  AlarmOn,
-  DeleteToEndOfRow,
-  RollUp2,
-  RollUp3,
-  RollUp4,
-  FlashOn,
-  ResumeDirectionCaptioning,
-  TextRestart,
-  ResumeTextDisplay,
-  EraseDisplayedMemory,
-  CarriageReturn,
-  EraseNonDisplayedMemory,
-  EndOfCaption,
-}
+use Rattle.code.specs.declared.control.Command.TheVariants.{ResumeCaptionLoading, Backspace, AlarmOff, AlarmOn, DeleteToEndOfRow, RollUp2, RollUp3, RollUp4, FlashOn, ResumeDirectionCaptioning, TextRestart, ResumeTextDisplay, EraseDisplayedMemory, CarriageReturn, EraseNonDisplayedMemory, EndOfCaption}
 use Rattle.code.specs.declared.control.Control.{Control}
 use Rattle.code.specs.declared.control.Control.TheVariants as control
 use Rattle.code.specs.declared.control.Tab.{Tab}
@@ -46,7 +29,7 @@ pub record Named : Type 0 where
   pub code : Code
   pub length : ℕ
 
-abbrev coded : ℕ → ℕ → CodeField → Control → Named
+abbrev coded : ℕ → ℕ → Option Field → Control → Named
 coded a b f c = record {
   pair = pair (with_parity a) (with_parity b);
   code = code.Control (record { field = f; channel = channel_one; control = c });
@@ -58,7 +41,7 @@ one_byte b c = record { pair = pair (with_parity b) (with_parity 0); code = c; l
 
 -- 14 20 to 14 2F
 abbrev command : ℕ → Command → Named
-command b c = coded 0x14 b (Of field_one) (control.Command c)
+command b c = coded 0x14 b (Some field_one) (control.Command c)
 
 abbrev commands : List Named
 commands =
@@ -70,14 +53,14 @@ commands =
 
 -- 17 21 to 17 23
 abbrev tab : ℕ → Tab → Named
-tab b t = coded 0x17 b Absent (control.Tab t)
+tab b t = coded 0x17 b None (control.Tab t)
 
 abbrev tabs : List Named
 tabs = tab 0x21 TabOffset1 ∷ tab 0x22 TabOffset2 ∷ tab 0x23 TabOffset3 ∷ []
 
 -- the rows of symbols, each by its first
 abbrev symbol : ℕ → ℕ → SymbolRow → Named
-symbol a b r = coded a b Absent (control.Symbol (record { row = r; column = C0 }))
+symbol a b r = coded a b None (control.Symbol (record { row = r; column = C0 }))
 
 abbrev rows : List Named
 rows =

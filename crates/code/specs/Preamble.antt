@@ -1,33 +1,19 @@
 -- Preamble address codes, from 47 CFR 79.101 (d) and (h): fifteen rows, and sixteen styles with and without an
 -- underline. That rows are counted from 0, and refusals 3 and 8, are 01's.
+use Rattle.std.specs.Prelude.{Result}
+use Rattle.code.specs.declared.preamble.NoSuchIndent.{NoSuchIndent}
+use Rattle.code.specs.declared.preamble.NoSuchRow.{NoSuchRow}
 use Rattle.std.specs.Prelude.{ℕ, ◌+◌, ◌-◌, ◌/◌, ◌%◌, Bool, true, false, cond, ◌&&◌, List, [], ◌∷◌, eqb, leb, ltb, get_or}
 use Rattle.std.specs.Prelude.{Option, None, Some}
 use Rattle.code.specs.Color.{color_at, color_number}
-use Rattle.code.specs.Outcome.{Outcome, answer, refused}
+use Rattle.code.specs.Outcome.{Outcome, answer, outcome, refused}
 use Rattle.code.specs.Pair.{pair}
 use Rattle.code.specs.declared.color.Color.{Color}
 use Rattle.code.specs.declared.color.Color.TheVariants.{White}
 use Rattle.code.specs.declared.pair.Pair.{Pair}
-use Rattle.code.specs.declared.preamble.FromIndent.{FromIndent}
-use Rattle.code.specs.declared.preamble.FromIndent.TheVariants.{Made as Indented, NoSuchIndent}
-use Rattle.code.specs.declared.preamble.MaybeIndent.{MaybeIndent}
-use Rattle.code.specs.declared.preamble.MaybeIndent.TheVariants.{Indent, Absent}
-use Rattle.code.specs.declared.preamble.NewPreamble.{NewPreamble}
-use Rattle.code.specs.declared.preamble.NewPreamble.TheVariants.{Made, NoSuchRow}
 use Rattle.code.specs.declared.preamble.PreambleAddressCode.{PreambleAddressCode}
 use Rattle.code.specs.declared.preamble.PreambleType.{PreambleType}
-use Rattle.code.specs.declared.preamble.PreambleType.TheVariants.{
-  Color as Colored,
-  WhiteItalics,
-  Indent0,
-  Indent4,
-  Indent8,
-  Indent12,
-  Indent16,
-  Indent20,
-  Indent24,
-  Indent28,
-}
+use Rattle.code.specs.declared.preamble.PreambleType.TheVariants.{Color as Colored, WhiteItalics, Indent0, Indent4, Indent8, Indent12, Indent16, Indent20, Indent24, Indent28}
 
 -- the pair of each row's white preamble, rows 0 to 14; the style and the underline are added to its second byte
 abbrev pub row_prefixes : List Pair
@@ -67,9 +53,8 @@ style_of Indent28 = 15
 abbrev pub from_indent : ℕ → Outcome PreambleType
 from_indent n = cond (eqb (n % 4) 0 && leb n 28) (answer (style_at (8 + n / 4))) (refused 8)
 
-abbrev pub from_indent_outcome : FromIndent → Outcome PreambleType
-from_indent_outcome (Indented t) = answer t
-from_indent_outcome NoSuchIndent = refused 8
+abbrev pub from_indent_outcome : Result PreambleType NoSuchIndent → Outcome PreambleType
+from_indent_outcome r = outcome (λ e. 8) r
 
 abbrev pub color_type : Color → PreambleType
 color_type c = Colored c
@@ -100,10 +85,6 @@ indent_in Indent20 = Some 20
 indent_in Indent24 = Some 24
 indent_in Indent28 = Some 28
 
-abbrev pub maybe_indent_outcome : MaybeIndent → Option ℕ
-maybe_indent_outcome (Indent n) = Some n
-maybe_indent_outcome Absent = None
-
 -- 3: a row above 14
 abbrev pub in_row : {A : Type 0} → ℕ → A → Outcome A
 in_row row x = cond (leb row 14) (answer x) (refused 3)
@@ -111,9 +92,8 @@ in_row row x = cond (leb row 14) (answer x) (refused 3)
 abbrev pub new_preamble : ℕ → Bool → PreambleType → Outcome PreambleAddressCode
 new_preamble row u t = in_row row (record { row = row; underline = u; ty = t })
 
-abbrev pub new_preamble_outcome : NewPreamble → Outcome PreambleAddressCode
-new_preamble_outcome (Made p) = answer p
-new_preamble_outcome NoSuchRow = refused 3
+abbrev pub new_preamble_outcome : Result PreambleAddressCode NoSuchRow → Outcome PreambleAddressCode
+new_preamble_outcome r = outcome (λ e. 3) r
 
 abbrev pub row_in : PreambleAddressCode → ℕ
 row_in p = p.row

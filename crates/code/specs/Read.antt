@@ -1,5 +1,9 @@
 -- What a pair means. From 47 CFR 79.101 (g), (h), (i): characters, control codes, the channel bit. From CTA-608 as 01
 -- has it: extended characters and the field. From 01: `Unknown`, and refusal 1, which follows the crate against (j).
+use Rattle.std.specs.Option.{unwrap_or}
+use Rattle.std.specs.Prelude.{Result}
+use Rattle.code.specs.declared.read.InvalidParity.{InvalidParity}
+use Rattle.code.specs.declared.channel.Field.{Field}
 use Rattle.std.specs.Prelude.{ℕ, ◌+◌, ◌-◌, ◌/◌, ◌%◌, Bool, cond, ◌&&◌, eqb, leb}
 use Rattle.std.specs.Prelude.{Option, None, Some}
 use Rattle.code.specs.Channel.{channel_one, channel_two, field_one, field_two}
@@ -7,7 +11,7 @@ use Rattle.code.specs.Column.{column_at}
 use Rattle.code.specs.Control.{command_at, names_field, tab_of}
 use Rattle.code.specs.Letter.{letter_at}
 use Rattle.code.specs.MidRow.{mid_row_at}
-use Rattle.code.specs.Outcome.{Outcome, answer, refused}
+use Rattle.code.specs.Outcome.{Outcome, answer, outcome, refused}
 use Rattle.code.specs.Parity.{is_odd, stripped}
 use Rattle.code.specs.Pair.{pair, same_pair}
 use Rattle.code.specs.Position.{first_place}
@@ -17,14 +21,10 @@ use Rattle.code.specs.Symbol.{symbol_base}
 use Rattle.code.specs.declared.channel.Channel.{Channel}
 use Rattle.code.specs.declared.code.Code.{Code}
 use Rattle.code.specs.declared.code.Code.TheVariants as code
-use Rattle.code.specs.declared.control.CodeField.{CodeField}
-use Rattle.code.specs.declared.control.CodeField.TheVariants.{Of, Absent}
 use Rattle.code.specs.declared.control.Control.{Control}
 use Rattle.code.specs.declared.control.Control.TheVariants as control
 use Rattle.code.specs.declared.control.ControlCode.{ControlCode}
 use Rattle.code.specs.declared.pair.Pair.{Pair}
-use Rattle.code.specs.declared.read.FromData.{FromData}
-use Rattle.code.specs.declared.read.FromData.TheVariants.{Codes, InvalidParity}
 use Rattle.code.specs.declared.symbol.SymbolRow.{SymbolRow}
 use Rattle.code.specs.declared.symbol.SymbolRow.TheVariants.{Special, Spanish, French, Portuguese, German}
 
@@ -44,8 +44,8 @@ abbrev pub without_channel : ℕ → ℕ
 without_channel a = cond (leb a 0x17) a (a - 8)
 
 -- the field that 14 or 15 names; 15 then means what 14 does
-abbrev pub field_of : ℕ → ℕ → CodeField
-field_of p b = cond (names_field b) (cond (eqb p 0x14) (Of field_one) (cond (eqb p 0x15) (Of field_two) Absent)) Absent
+abbrev pub field_of : ℕ → ℕ → Option Field
+field_of p b = cond (names_field b) (cond (eqb p 0x14) (Some field_one) (cond (eqb p 0x15) (Some field_two) None)) None
 
 abbrev pub without_field : ℕ → ℕ → ℕ
 without_field p b = cond (names_field b && eqb p 0x15) 0x14 p
@@ -80,8 +80,7 @@ meaning p b =
 
 -- what has no meaning keeps its two stripped bytes, with the channel bit
 abbrev pub or_unknown : ℕ → ℕ → Option Control → Control
-or_unknown a b None = control.Unknown a b
-or_unknown a b (Some c) = c
+or_unknown a b meant = unwrap_or meant (control.Unknown a b)
 
 -- the control code of two stripped bytes
 unfoldable pub control_code_of : ℕ → ℕ → ControlCode
@@ -110,6 +109,5 @@ is_command_pair p = is_command (stripped p.0)
 unfoldable pub read_pair : ℕ → ℕ → Outcome (Code × Code)
 read_pair a b = cond (is_odd_pair (pair a b)) (answer (codes_of_bytes (stripped a) (stripped b))) (refused 1)
 
-abbrev pub from_data_outcome : FromData → Outcome (Code × Code)
-from_data_outcome (Codes x y) = answer (x, y)
-from_data_outcome InvalidParity = refused 1
+abbrev pub from_data_outcome : Result (Code × Code) InvalidParity → Outcome (Code × Code)
+from_data_outcome r = outcome (λ e. 1) r

@@ -1,6 +1,7 @@
 -- What is written is read back: the laws from codes to a pair and back, in the port's own words over writing and reading.
 -- A control code, `Unknown` aside, keeps its channel and its control, and is read with the field that its bytes name; NUL
 -- and letters, two to a pair, stay as they were. proofs/ReadBack.antt proves them.
+use Rattle.std.specs.Prelude.{None, Option, Some}
 use Rattle.std.specs.Prelude.{Bool, true, false, ◌≡◌}
 use Rattle.code.specs.Channel.{field_one}
 use Rattle.code.specs.Outcome.{answer}
@@ -10,28 +11,26 @@ use Rattle.code.specs.declared.channel.Channel.{Channel}
 use Rattle.code.specs.declared.channel.Field.{Field}
 use Rattle.code.specs.declared.code.Code.{Code}
 use Rattle.code.specs.declared.code.Code.TheVariants as code
-use Rattle.code.specs.declared.control.CodeField.{CodeField}
-use Rattle.code.specs.declared.control.CodeField.TheVariants.{Of, Absent}
 use Rattle.code.specs.declared.control.Control.{Control}
 use Rattle.code.specs.declared.control.Control.TheVariants as control
 use Rattle.code.specs.declared.pair.Pair.{Pair}
 
 -- 14 20 to 14 2F are field one's and 15 20 to 15 2F field two's, so that such a command always names a field: its own, or
 -- field one where it has none. No other control names one.
-abbrev pub or_field_one : CodeField → Field
-or_field_one (Of f) = f
-or_field_one Absent = field_one
+abbrev pub or_field_one : Option Field → Field
+or_field_one (Some f) = f
+or_field_one None = field_one
 
-abbrev pub field_read : CodeField → Control → CodeField
-field_read f (control.MidRow m) = Absent
-field_read f (control.Symbol s) = Absent
-field_read f (control.Command c) = Of (or_field_one f)
-field_read f (control.Tab t) = Absent
-field_read f (control.Preamble p) = Absent
-field_read f (control.Unknown a b) = Absent
+abbrev pub field_read : Option Field → Control → Option Field
+field_read f (control.MidRow m) = None
+field_read f (control.Symbol s) = None
+field_read f (control.Command c) = Some (or_field_one f)
+field_read f (control.Tab t) = None
+field_read f (control.Preamble p) = None
+field_read f (control.Unknown a b) = None
 
 -- a control code as it is written and read back
-pub record ReadsBack (f : CodeField) (ch : Channel) (c : Control) : Type 0 where
+pub record ReadsBack (f : Option Field) (ch : Channel) (c : Control) : Type 0 where
   pub pair : Pair
   pub written : write_code (code.Control (record { field = f; channel = ch; control = c })) ≡ answer (pair, 2)
   pub read : read_pair pair.0 pair.1 ≡ answer (code.Control (record { field = field_read f c; channel = ch; control = c }), code.Nul)

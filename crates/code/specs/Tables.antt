@@ -9,18 +9,12 @@ use Rattle.code.specs.Letter.{letter_at}
 use Rattle.code.specs.Pair.{pair}
 use Rattle.code.specs.Range.{within}
 use Rattle.code.specs.Symbol.{symbol_at, symbol_base}
-use Rattle.code.specs.declared.character.Character.{Character}
-use Rattle.code.specs.declared.character.Character.TheVariants as character
 use Rattle.code.specs.declared.code.Code.{Code}
 use Rattle.code.specs.declared.code.Code.TheVariants as code
 use Rattle.code.specs.declared.control.Control.{Control}
 use Rattle.code.specs.declared.control.Control.TheVariants as control
 use Rattle.code.specs.declared.pair.Pair.{Pair}
-use Rattle.code.specs.declared.read.Meaning.{Meaning}
-use Rattle.code.specs.declared.read.Meaning.TheVariants as meant
 use Rattle.code.specs.declared.symbol.SymbolRow.TheVariants.{Special, Spanish, French, Portuguese, German}
-use Rattle.code.specs.declared.tables.Found.{Found}
-use Rattle.code.specs.declared.tables.Found.TheVariants.{At, Absent}
 
 -- the byte of a character, or the two bytes of a control code
 abbrev pub bytes_of : ℕ → ℕ
@@ -31,12 +25,12 @@ abbrev pub point_of : ℕ → ℕ
 point_of e = e % 65536
 
 -- 0 where there is none, and back
-abbrev pub or_zero : Character → ℕ
-or_zero (character.Point c) = c
-or_zero character.Absent = 0
+abbrev pub or_zero : Option ℕ → ℕ
+or_zero (Some c) = c
+or_zero None = 0
 
-abbrev pub character_of : ℕ → Character
-character_of n = cond (eqb n 0) character.Absent (character.Point n)
+abbrev pub character_of : ℕ → Option ℕ
+character_of n = cond (eqb n 0) None (Some n)
 
 -- two bytes as one number, and back
 abbrev pub both_bytes : Pair → ℕ
@@ -46,7 +40,7 @@ abbrev pub two_bytes : ℕ → Pair
 two_bytes n = pair (n / 256) (n % 256)
 
 -- entries for these characters, the bytes rising by one from the first
-abbrev pub entries : ℕ → List Character → List ℕ
+abbrev pub entries : ℕ → List (Option ℕ) → List ℕ
 entries bytes [] = []
 entries bytes (c ∷ cs) = (bytes * 65536 + or_zero c) ∷ entries (suc bytes) cs
 
@@ -59,8 +53,8 @@ unfoldable pub control_entries : List ℕ
 control_entries =
     entries (both_bytes (symbol_base Special)) special ++ entries (both_bytes (symbol_base Spanish)) spanish
     ++ entries (both_bytes (symbol_base French)) french ++ entries (both_bytes (symbol_base Portuguese)) portuguese
-    ++ entries (both_bytes (symbol_base German)) german ++ entries 0x1420 (replicate 16 character.Absent)
-    ++ entries 0x1721 (replicate 3 character.Absent)
+    ++ entries (both_bytes (symbol_base German)) german ++ entries 0x1420 (replicate 16 None)
+    ++ entries 0x1721 (replicate 3 None)
 
 -- the code points of the standard characters, then of the symbols
 abbrev pub all_points : List ℕ
@@ -74,17 +68,9 @@ control_at i =
     cond (ltb i 80) (control.Symbol (symbol_at i))
     (cond (ltb i 96) (control.Command (command_at (i - 80))) (control.Tab (tab_of (i - 95))))
 
-abbrev pub found_at : Option ℕ → Found
-found_at None = Absent
-found_at (Some i) = At i
-
 -- the row of 40 to 5F after each of the first bytes 10 to 17
 abbrev pub first_row_at : ℕ → ℕ
 first_row_at n = get_or (10 ∷ 0 ∷ 2 ∷ 11 ∷ 13 ∷ 4 ∷ 6 ∷ 8 ∷ []) n 0
-
-abbrev pub meaning_of : Option Control → Meaning
-meaning_of None = meant.Absent
-meaning_of (Some c) = meant.Of c
 
 -- the tab of a second byte after 17
 abbrev pub tab_in : ℕ → Option Control

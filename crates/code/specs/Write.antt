@@ -1,11 +1,17 @@
 -- The pair that a code is written as. From 47 CFR 79.101 (g), (h), (i): the bytes of characters and control codes. From
 -- CTA-608 as 01 has it: extended characters and the field. From 01: `Unknown`, lengths, refusals 2 and 3.
+use Rattle.std.specs.Prelude.{Result}
+use Rattle.code.specs.declared.write.WriteError.{WriteError}
+use Rattle.code.specs.declared.write.WriteError.TheVariants.{UnknownByte, NoSuchRow}
+use Rattle.code.specs.declared.preamble.NoSuchRow as row
+use Rattle.std.specs.Prelude.{None, Option, Some}
+use Rattle.code.specs.declared.channel.Field.{Field}
 use Rattle.std.specs.Prelude.{ℕ, ◌+◌, ◌*◌, ◌/◌, ◌%◌, Bool, true, false, cond, ◌&&◌, not, eqb, ltb}
 use Rattle.code.specs.Column.{column_number}
 use Rattle.code.specs.Control.{command_number, names_field, tab_number}
 use Rattle.code.specs.Letter.{letter_place}
 use Rattle.code.specs.MidRow.{mid_row_number}
-use Rattle.code.specs.Outcome.{Outcome, answer, refused}
+use Rattle.code.specs.Outcome.{Outcome, answer, outcome, refused}
 use Rattle.code.specs.Pair.{pair, plus}
 use Rattle.code.specs.Parity.{with_parity}
 use Rattle.code.specs.Preamble.{in_row, row_prefix, style_of}
@@ -14,8 +20,6 @@ use Rattle.code.specs.Symbol.{symbol_base}
 use Rattle.code.specs.declared.channel.Channel.{Channel}
 use Rattle.code.specs.declared.code.Code.{Code}
 use Rattle.code.specs.declared.code.Code.TheVariants as code
-use Rattle.code.specs.declared.control.CodeField.{CodeField}
-use Rattle.code.specs.declared.control.CodeField.TheVariants.{Of, Absent}
 use Rattle.code.specs.declared.control.Command.{Command}
 use Rattle.code.specs.declared.control.Control.{Control}
 use Rattle.code.specs.declared.control.Control.TheVariants as control
@@ -24,14 +28,6 @@ use Rattle.code.specs.declared.midrow.MidRow.{MidRow}
 use Rattle.code.specs.declared.pair.Pair.{Pair}
 use Rattle.code.specs.declared.preamble.PreambleAddressCode.{PreambleAddressCode}
 use Rattle.code.specs.declared.symbol.Symbol.{Symbol}
-use Rattle.code.specs.declared.write.Bytes.{Bytes}
-use Rattle.code.specs.declared.write.Bytes.TheVariants as bytes
-use Rattle.code.specs.declared.write.Domain.{Domain}
-use Rattle.code.specs.declared.write.Domain.TheVariants as domain
-use Rattle.code.specs.declared.write.RowBytes.{RowBytes}
-use Rattle.code.specs.declared.write.RowBytes.TheVariants as row_bytes_is
-use Rattle.code.specs.declared.write.Written.{Written}
-use Rattle.code.specs.declared.write.Written.TheVariants.{Made, UnknownByte, NoSuchRow}
 
 abbrev pub bit : Bool → ℕ
 bit true = 1
@@ -75,11 +71,11 @@ control_bytes (control.Preamble p) = row_bytes p
 control_bytes (control.Unknown a b) = of_seven_bits (is_seven_bits a && is_seven_bits b) (pair a b)
 
 -- field two turns 14 before 20 to 2F into 15
-abbrev pub is_field_two : CodeField → Bool
-is_field_two (Of f) = not f.0
-is_field_two Absent = false
+abbrev pub is_field_two : Option Field → Bool
+is_field_two (Some f) = not f.0
+is_field_two None = false
 
-abbrev pub with_field : CodeField → Pair → ℕ
+abbrev pub with_field : Option Field → Pair → ℕ
 with_field f p = cond (is_field_two f && eqb p.0 0x14 && names_field p.1) 0x15 p.0
 
 -- channel two sets bit 0x08
@@ -89,11 +85,11 @@ with_bit8 a = cond (eqb (a / 8 % 2) 1) a (a + 8)
 abbrev pub with_channel : Channel → ℕ → ℕ
 with_channel c a = cond c.0 a (with_bit8 a)
 
-unfoldable pub on_line : CodeField → Channel → Pair → Pair
+unfoldable pub on_line : Option Field → Channel → Pair → Pair
 on_line f c p = pair (with_parity (with_channel c (with_field f p))) (with_parity p.1)
 
 -- a command fills the pair and has length 2
-abbrev pub as_command : CodeField → Channel → Outcome Pair → Outcome (Pair × ℕ)
+abbrev pub as_command : Option Field → Channel → Outcome Pair → Outcome (Pair × ℕ)
 as_command f c (answer p) = answer (on_line f c p, 2)
 as_command f c (refused n) = refused n
 
@@ -110,10 +106,16 @@ write_code (code.Control c) = as_command c.field c.channel (control_bytes c.cont
 write_code (code.Letter l) = as_single (0x20 + letter_place l)
 write_code (code.Unknown b) = of_seven_bits (is_seven_bits b) (single_written b)
 
-abbrev pub written_outcome : Written → Outcome (Pair × ℕ)
-written_outcome (Made p n) = answer (p, n)
-written_outcome UnknownByte = refused 2
-written_outcome NoSuchRow = refused 3
+-- the numbers of what is refused in writing
+abbrev pub write_refusal : WriteError → ℕ
+write_refusal UnknownByte = 2
+write_refusal NoSuchRow = 3
+
+abbrev pub written_outcome : Result (Pair × ℕ) WriteError → Outcome (Pair × ℕ)
+written_outcome r = outcome write_refusal r
+
+abbrev pub seven_bits_outcome : Result ℕ WriteError → Outcome ℕ
+seven_bits_outcome r = outcome write_refusal r
 
 -- a code that can be written: 2 and 3 as above
 abbrev pub control_in_domain : Control → Outcome Unit
@@ -130,10 +132,8 @@ in_domain (code.Control c) = control_in_domain c.control
 in_domain (code.Letter l) = answer tt
 in_domain (code.Unknown b) = of_seven_bits (is_seven_bits b) tt
 
-abbrev pub domain_outcome : Domain → Outcome Unit
-domain_outcome domain.Inside = answer tt
-domain_outcome domain.UnknownByte = refused 2
-domain_outcome domain.NoSuchRow = refused 3
+abbrev pub domain_outcome : Result Unit WriteError → Outcome Unit
+domain_outcome r = outcome write_refusal r
 
 -- two codes that were read from one pair are written as the command, or as the two single bytes
 abbrev pub together : Outcome (Pair × ℕ) → Outcome (Pair × ℕ) → Outcome Pair
@@ -145,14 +145,11 @@ together (refused n) (refused m) = refused n
 abbrev pub write_two : Code → Code → Outcome Pair
 write_two x y = together (write_code x) (write_code y)
 
-abbrev pub bytes_outcome : Bytes → Outcome Pair
-bytes_outcome (bytes.Are p) = answer p
-bytes_outcome bytes.UnknownByte = refused 2
-bytes_outcome bytes.NoSuchRow = refused 3
+abbrev pub bytes_outcome : Result Pair WriteError → Outcome Pair
+bytes_outcome r = outcome write_refusal r
 
-abbrev pub row_bytes_outcome : RowBytes → Outcome Pair
-row_bytes_outcome (row_bytes_is.Are p) = answer p
-row_bytes_outcome row_bytes_is.NoSuchRow = refused 3
+abbrev pub row_bytes_outcome : Result Pair row.NoSuchRow → Outcome Pair
+row_bytes_outcome r = outcome (λ e. 3) r
 
 -- which codes are sent as commands: every control code but `Unknown`, and `Unknown`, of one byte or two, where its own
 -- first byte is 10 to 1F

@@ -24,10 +24,8 @@ impl Code {
         ensures { result ≡ byte_len self }
     {
         match self {
-            Code::Nul => 1,
             Code::Control(_) => 2,
-            Code::Letter(_) => 1,
-            Code::Unknown(_) => 1,
+            Code::Nul | Code::Letter(_) | Code::Unknown(_) => 1,
         }
     }
 
@@ -37,13 +35,8 @@ impl Code {
         ensures { result ≡ needs_backspace self }
     {
         match self {
-            Code::Nul => false,
-            Code::Control(code) => {
-                let control = code.control;
-                control.needs_backspace()
-            }
-            Code::Letter(_) => false,
-            Code::Unknown(_) => false,
+            Code::Control(code) => code.control.needs_backspace(),
+            Code::Nul | Code::Letter(_) | Code::Unknown(_) => false,
         }
     }
 }
@@ -55,14 +48,8 @@ impl Control {
     {
         match self {
             Control::MidRow(_) => true,
-            Control::Symbol(symbol) => {
-                let row = symbol.row;
-                row.is_extended()
-            }
-            Control::Command(_) => false,
-            Control::Tab(_) => false,
-            Control::Preamble(_) => false,
-            Control::Unknown(_, _) => false,
+            Control::Symbol(symbol) => symbol.row.is_extended(),
+            _ => false,
         }
     }
 }
@@ -72,12 +59,6 @@ impl SymbolRow {
     pub fn is_extended(self) -> bool
         ensures { result ≡ is_extended self }
     {
-        match self {
-            SymbolRow::Special => false,
-            SymbolRow::Spanish => true,
-            SymbolRow::French => true,
-            SymbolRow::Portuguese => true,
-            SymbolRow::German => true,
-        }
+        !matches!(self, SymbolRow::Special)
     }
 }

@@ -34,14 +34,6 @@ impl Color {
     pub fn number(self) -> u8
         ensures { result ≡ color_number self }
     {
-        match self {
-            Color::White => 0,
-            Color::Green => 1,
-            Color::Blue => 2,
-            Color::Cyan => 3,
-            Color::Red => 4,
-            Color::Yellow => 5,
-            Color::Magenta => 6,
-        }
+        self as u8
     }
 }

@@ -52,23 +52,6 @@ impl Column {
     pub fn number(self) -> u8
         ensures { result ≡ column_number self }
     {
-        match self {
-            Column::C0 => 0,
-            Column::C1 => 1,
-            Column::C2 => 2,
-            Column::C3 => 3,
-            Column::C4 => 4,
-            Column::C5 => 5,
-            Column::C6 => 6,
-            Column::C7 => 7,
-            Column::C8 => 8,
-            Column::C9 => 9,
-            Column::CA => 10,
-            Column::CB => 11,
-            Column::CC => 12,
-            Column::CD => 13,
-            Column::CE => 14,
-            Column::CF => 15,
-        }
+        self as u8
     }
 }

@@ -48,7 +48,7 @@ pub enum Command {
 // The tab offsets 17 21 to 17 23.
 #[derive(Clone, Copy)]
 pub enum Tab {
-    TabOffset1,
+    TabOffset1 = 1,
     TabOffset2,
     TabOffset3,
 }
@@ -64,23 +64,14 @@ pub enum Control {
     Unknown(u8, u8),
 }
 
-// A tab offset made from its count. `NoSuchTab` is refusal 4.
-#[derive(Clone, Copy)]
-pub enum TabOffset {
-    Made(Control),
-    NoSuchTab,
-}
-
-// The field that a control code names. In reading, only 14 and 15 before 20 to 2F name one.
-#[derive(Clone, Copy)]
-pub enum CodeField {
-    Of(Field),
-    Absent,
-}
+// Refusal 4: no tab moves so many columns.
+#[derive(Clone, Copy, Debug, PartialEq, Eq)]
+pub struct NoSuchTab;
 
 #[derive(Clone, Copy)]
 pub struct ControlCode {
-    pub field: CodeField,
+    // The field that it names. In reading, only 14 and 15 before 20 to 2F name one.
+    pub field: Option<Field>,
     pub channel: Channel,
     pub control: Control,
 }
@@ -122,24 +113,7 @@ impl Command {
     pub fn number(self) -> u8
         ensures { result ≡ command_number self }
     {
-        match self {
-            Command::ResumeCaptionLoading => 0,
-            Command::Backspace => 1,
-            Command::AlarmOff => 2,
-            Command::AlarmOn => 3,
-            Command::DeleteToEndOfRow => 4,
-            Command::RollUp2 => 5,
-            Command::RollUp3 => 6,
-            Command::RollUp4 => 7,
-            Command::FlashOn => 8,
-            Command::ResumeDirectionCaptioning => 9,
-            Command::TextRestart => 10,
-            Command::ResumeTextDisplay => 11,
-            Command::EraseDisplayedMemory => 12,
-            Command::CarriageReturn => 13,
-            Command::EraseNonDisplayedMemory => 14,
-            Command::EndOfCaption => 15,
-        }
+        self as u8
     }
 }
 
@@ -148,24 +122,20 @@ impl Tab {
     pub fn number(self) -> u8
         ensures { result ≡ tab_number self }
     {
-        match self {
-            Tab::TabOffset1 => 1,
-            Tab::TabOffset2 => 2,
-            Tab::TabOffset3 => 3,
-        }
+        self as u8
     }
 }
 
 impl Control {
     // The tab offset of 1, 2 or 3 columns.
-    pub fn tab_offset(offset: u8) -> TabOffset
+    pub fn tab_offset(offset: u8) -> Result<Control, NoSuchTab>
         ensures { tab_offset_outcome result ≡ tab_offset offset }
     {
         match offset {
-            1 => TabOffset::Made(Control::Tab(Tab::TabOffset1)),
-            2 => TabOffset::Made(Control::Tab(Tab::TabOffset2)),
-            3 => TabOffset::Made(Control::Tab(Tab::TabOffset3)),
-            _ => TabOffset::NoSuchTab,
+            1 => Ok(Control::Tab(Tab::TabOffset1)),
+            2 => Ok(Control::Tab(Tab::TabOffset2)),
+            3 => Ok(Control::Tab(Tab::TabOffset3)),
+            _ => Err(NoSuchTab),
         }
     }
 }
@@ -176,9 +146,9 @@ impl ControlCode {
         ensures { result ≡ control_code field channel control }
     {
         ControlCode {
-            field: CodeField::Of(field),
-            channel: channel,
-            control: control,
+            field: Some(field),
+            channel,
+            control,
         }
     }
 
@@ -190,7 +160,7 @@ impl ControlCode {
     }
 
     // The field that it names, or none.
-    pub fn field(self) -> CodeField
+    pub fn field(self) -> Option<Field>
         ensures { result ≡ field_in self }
     {
         self.field

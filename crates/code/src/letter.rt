@@ -41,14 +41,7 @@ impl LetterRow {
     pub fn number(self) -> u8
         ensures { result ≡ letter_row_number self }
     {
-        match self {
-            LetterRow::Row2 => 0,
-            LetterRow::Row3 => 1,
-            LetterRow::Row4 => 2,
-            LetterRow::Row5 => 3,
-            LetterRow::Row6 => 4,
-            LetterRow::Row7 => 5,
-        }
+        self as u8
     }
 }
 
@@ -58,11 +51,9 @@ impl Letter {
         requires { place < 96 }
         ensures { result ≡ letter_at place }
     {
-        let row = LetterRow::at(place / 16);
-        let column = Column::at(place % 16);
         Letter {
-            row: row,
-            column: column,
+            row: LetterRow::at(place / 16),
+            column: Column::at(place % 16),
         }
     }
 
@@ -70,8 +61,6 @@ impl Letter {
     pub fn place(self) -> u8
         ensures { result ≡ letter_place self }
     {
-        let row = self.row;
-        let column = self.column;
-        row.number() * 16 + column.number()
+        self.row.number() * 16 + self.column.number()
     }
 }

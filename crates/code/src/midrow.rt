@@ -1,6 +1,6 @@
 // Mid-row codes: a change of colour, italics or underline within a row. A receiver shows one as a space.
 ghost use Rattle.std.specs.Prelude.{◌≡◌, ◌<◌};
-ghost use Rattle.code.specs.MidRow.{mid_row_at, mid_row_number, colored, italic, color_in, maybe_color_outcome, is_italic, is_underlined};
+ghost use Rattle.code.specs.MidRow.{mid_row_at, mid_row_number, colored, italic, color_in, is_italic, is_underlined};
 
 use crate::color::Color;
 
@@ -16,13 +16,6 @@ pub struct MidRow {
     pub underline: bool,
 }
 
-// The colour that a mid-row code sets: italics leave it as it is.
-#[derive(Clone, Copy)]
-pub enum MaybeColor {
-    Color(Color),
-    Absent,
-}
-
 impl MidRow {
     // A change to a colour, which also ends italics.
     pub fn new_color(color: Color, underline: bool) -> MidRow
@@ -30,7 +23,7 @@ impl MidRow {
     {
         MidRow {
             color: MidRowColor::Color(color),
-            underline: underline,
+            underline,
         }
     }
 
@@ -40,18 +33,17 @@ impl MidRow {
     {
         MidRow {
             color: MidRowColor::Italics,
-            underline: underline,
+            underline,
         }
     }
 
-    // The colour set, or none.
-    pub fn color(self) -> MaybeColor
-        ensures { maybe_color_outcome result ≡ color_in self }
+    // The colour that it sets, or none: italics leave the colour as it is.
+    pub fn color(self) -> Option<Color>
+        ensures { result ≡ color_in self }
     {
-        let kind = self.color;
-        match kind {
-            MidRowColor::Color(color) => MaybeColor::Color(color),
-            MidRowColor::Italics => MaybeColor::Absent,
+        match self.color {
+            MidRowColor::Color(color) => Some(color),
+            MidRowColor::Italics => None,
         }
     }
 
@@ -66,19 +58,14 @@ impl MidRow {
     pub fn italics(self) -> bool
         ensures { result ≡ is_italic self }
     {
-        let kind = self.color;
-        match kind {
-            MidRowColor::Color(_) => false,
-            MidRowColor::Italics => true,
-        }
+        matches!(self.color, MidRowColor::Italics)
     }
 
     // 0 to 6 the colours, 7 italics.
     pub fn number(self) -> u8
         ensures { result ≡ mid_row_number self }
     {
-        let kind = self.color;
-        match kind {
+        match self.color {
             MidRowColor::Color(color) => color.number(),
             MidRowColor::Italics => 7,
         }

@@ -6,7 +6,7 @@ ghost use Rattle.code.specs.Parity.{is_odd, stripped, with_parity};
 pub fn check_odd_parity(byte: u8) -> bool
     ensures { result ≡ is_odd byte }
 {
-    u8::count_ones(byte) % 2 == 1
+    byte.count_ones() % 2 == 1
 }
 
 // The seven bits of data.

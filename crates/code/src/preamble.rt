@@ -1,6 +1,6 @@
 // Preamble address codes: where a row of captions starts and what it looks like.
 ghost use Rattle.std.specs.Prelude.{◌≡◌, ◌<◌};
-ghost use Rattle.code.specs.Preamble.{style_at, plain_style_at, style_of, color_type, color_of_style, indent_in, maybe_indent_outcome, from_indent, from_indent_outcome};
+ghost use Rattle.code.specs.Preamble.{style_at, plain_style_at, style_of, color_type, color_of_style, indent_in, from_indent, from_indent_outcome};
 ghost use Rattle.code.specs.Preamble.{new_preamble, new_preamble_outcome, row_in, column_in, type_in, underline_in, italics_in, color_in_row};
 
 use crate::color::Color;
@@ -20,31 +20,20 @@ pub enum PreambleType {
     Indent28,
 }
 
-// The column that an indent starts at; a colour and white italics have none.
-#[derive(Clone, Copy)]
-pub enum MaybeIndent {
-    Indent(u8),
-    Absent,
-}
-
-// A style made from an indent. `NoSuchIndent` is refusal 8.
-#[derive(Clone, Copy)]
-pub enum FromIndent {
-    Made(PreambleType),
-    NoSuchIndent,
-}
+// Refusal 8: no indent has so many columns.
+#[derive(Clone, Copy, Debug, PartialEq, Eq)]
+pub struct NoSuchIndent;
 
 impl PreambleType {
     // The style of an indent of 0, 4, .. 28 columns.
-    pub fn from_indent(indent: u8) -> FromIndent
+    pub fn from_indent(indent: u8) -> Result<PreambleType, NoSuchIndent>
         ensures { from_indent_outcome result ≡ from_indent indent }
     {
-        if indent % 4 == 0 {
-            if indent <= 28 {
-                return FromIndent::Made(PreambleType::at(8 + indent / 4));
-            }
+        if indent % 4 == 0 && indent <= 28 {
+            Ok(PreambleType::at(8 + indent / 4))
+        } else {
+            Err(NoSuchIndent)
         }
-        FromIndent::NoSuchIndent
     }
 
     // The style of a colour.
@@ -66,15 +55,15 @@ impl PreambleType {
         }
     }
 
-    // The indent of this style, or none.
-    pub fn indent(self) -> MaybeIndent
-        ensures { maybe_indent_outcome result ≡ indent_in self }
+    // The column that an indent starts at; a colour and white italics have none.
+    pub fn indent(self) -> Option<u8>
+        ensures { result ≡ indent_in self }
     {
         let style = self.style();
         if style < 8 {
-            MaybeIndent::Absent
+            None
         } else {
-            MaybeIndent::Indent((style - 8) * 4)
+            Some((style - 8) * 4)
         }
     }
 
@@ -136,26 +125,27 @@ pub struct PreambleAddressCode {
     pub ty: PreambleType,
 }
 
-// A preamble made from its parts. `NoSuchRow` is refusal 3.
-#[derive(Clone, Copy)]
-pub enum NewPreamble {
-    Made(PreambleAddressCode),
-    NoSuchRow,
-}
+// Refusal 3: a row above 14.
+#[derive(Clone, Copy, Debug, PartialEq, Eq)]
+pub struct NoSuchRow;
 
 impl PreambleAddressCode {
     // The preamble of a row, 0 to 14.
-    pub fn new(row: u8, underline: bool, code: PreambleType) -> NewPreamble
+    pub fn new(
+        row: u8,
+        underline: bool,
+        code: PreambleType,
+    ) -> Result<PreambleAddressCode, NoSuchRow>
         ensures { new_preamble_outcome result ≡ new_preamble row underline code }
     {
         if row < 15 {
-            NewPreamble::Made(PreambleAddressCode {
-                row: row,
-                underline: underline,
+            Ok(PreambleAddressCode {
+                row,
+                underline,
                 ty: code,
             })
         } else {
-            NewPreamble::NoSuchRow
+            Err(NoSuchRow)
         }
     }
 
@@ -170,11 +160,7 @@ impl PreambleAddressCode {
     pub fn column(self) -> u8
         ensures { result ≡ column_in self }
     {
-        let ty = self.ty;
-        match ty.indent() {
-            MaybeIndent::Indent(columns) => columns,
-            MaybeIndent::Absent => 0,
-        }
+        self.ty.indent().unwrap_or(0)
     }
 
     // Whether the row is underlined.
@@ -195,15 +181,13 @@ impl PreambleAddressCode {
     pub fn italics(self) -> bool
         ensures { result ≡ italics_in self }
     {
-        let ty = self.ty;
-        ty.style() == 7
+        self.ty.style() == 7
     }
 
     // The colour of the row.
     pub fn color(self) -> Color
         ensures { result ≡ color_in_row self }
     {
-        let ty = self.ty;
-        ty.color()
+        self.ty.color()
     }
 }

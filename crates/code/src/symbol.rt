@@ -44,13 +44,7 @@ impl SymbolRow {
     pub fn number(self) -> u8
         ensures { result ≡ symbol_row_number self }
     {
-        match self {
-            SymbolRow::Special => 0,
-            SymbolRow::Spanish => 1,
-            SymbolRow::French => 2,
-            SymbolRow::Portuguese => 3,
-            SymbolRow::German => 4,
-        }
+        self as u8
     }
 }
 
@@ -60,11 +54,9 @@ impl Symbol {
         requires { place < 80 }
         ensures { result ≡ symbol_at place }
     {
-        let row = SymbolRow::at(place / 16);
-        let column = Column::at(place % 16);
         Symbol {
-            row: row,
-            column: column,
+            row: SymbolRow::at(place / 16),
+            column: Column::at(place % 16),
         }
     }
 
@@ -72,8 +64,6 @@ impl Symbol {
     pub fn place(self) -> u8
         ensures { result ≡ symbol_place self }
     {
-        let row = self.row;
-        let column = self.column;
-        row.number() * 16 + column.number()
+        self.row.number() * 16 + self.column.number()
     }
 }

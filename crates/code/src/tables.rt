@@ -1,9 +1,8 @@
 // The tables, and how an entry is found. An entry is one number: its code point, or 0, in the low sixteen bits, and its
 // byte or bytes above them. A const array of numbers is checked in seconds, one of structs is not.
-ghost use Rattle.std.specs.Prelude.{map, ◌≡◌, ◌<◌, get_or};
-ghost use Rattle.code.specs.Position.{position};
+ghost use Rattle.std.specs.Prelude.{◌≡◌, ◌<◌, ◌==◌, ◌%◌, get_or, position};
 ghost use Rattle.code.specs.Preamble.{row_prefix};
-ghost use Rattle.code.specs.Tables.{all_points, code_entries, control_entries, point_of, found_at};
+ghost use Rattle.code.specs.Tables.{all_points, code_entries, control_entries};
 
 use crate::pair::Pair;
 
@@ -246,25 +245,11 @@ pub(crate) fn control_table() -> [u32; 99]
     CONTROL_MAP_TABLE
 }
 
-// Where a search found what it looked for.
-#[derive(Clone, Copy)]
-pub(crate) enum Found {
-    At(usize),
-    Absent,
-}
-
 // The first entry that has this code point.
-pub(crate) fn find_point(table: &[u32], point: u32) -> Found
-    ensures { result ≡ found_at (position point (map point_of table.now)) }
+pub(crate) fn find_point(table: &[u32], point: u32) -> Option<usize>
+    ensures { result ≡ position (λ e. point == e % 65536) table.now }
 {
-    let mut i: usize = 0;
-    while i < table.len() {
-        if table[i] % 65536 == point {
-            return Found::At(i);
-        }
-        i += 1;
-    }
-    Found::Absent
+    table.iter().position(|entry| point == entry % 65536)
 }
 
 // The prefix of a row.
@@ -272,8 +257,7 @@ pub(crate) fn row_prefix(row: u8) -> Pair
     requires { row < 15 }
     ensures { result ≡ row_prefix row }
 {
-    let table = ROW_PREFIXES;
-    table[row as usize]
+    ROW_PREFIXES[row as usize]
 }
 
 // The code point at a place: the standard characters, then the symbols, 0 for the transparent space. Reading looks up two

@@ -1,147 +1,113 @@
 // Writing a code into a pair.
 ghost use Rattle.std.specs.Prelude.{◌≡◌, ◌<◌};
+ghost use Rattle.code.specs.declared.write.WriteError.TheVariants.{NoSuchRow as refused_row};
 ghost use Rattle.code.specs.Write.{write_code, written_outcome, as_command, on_line, with_field, with_channel};
 ghost use Rattle.code.specs.Write.{in_domain, control_in_domain, domain_outcome};
 ghost use Rattle.code.specs.Symbol.{symbol_base};
 ghost use Rattle.code.specs.Write.{control_bytes, bytes_outcome, mid_row_bytes, symbol_bytes, command_bytes, tab_bytes, preamble_bytes};
-ghost use Rattle.code.specs.Write.{row_bytes, row_bytes_outcome};
+ghost use Rattle.code.specs.Write.{is_seven_bits, of_seven_bits, row_bytes, row_bytes_outcome, seven_bits_outcome};
 
-use crate::channel::Channel;
+use crate::channel::{Channel, Field};
 use crate::code::Code;
-use crate::control::{CodeField, Command, Control, ControlCode, Tab, names_field};
+use crate::control::{Command, Control, ControlCode, Tab, names_field};
 use crate::midrow::MidRow;
 use crate::pair::Pair;
 use crate::parity::add_parity;
-use crate::preamble::PreambleAddressCode;
+use crate::preamble::{NoSuchRow, PreambleAddressCode};
 use crate::symbol::{Symbol, SymbolRow};
 use crate::tables::row_prefix;
 
-// A written pair and how many of its bytes the code fills. `UnknownByte` is refusal 2, `NoSuchRow` refusal 3.
-#[derive(Clone, Copy)]
-pub enum Written {
-    Made(Pair, usize),
+// Why a code cannot be written: a byte of an `Unknown` is 80 or more, refusal 2; or refusal 3.
+#[derive(Clone, Copy, Debug, PartialEq, Eq)]
+pub enum WriteError {
     UnknownByte,
     NoSuchRow,
 }
 
-// Whether a code can be written. `UnknownByte` is refusal 2, `NoSuchRow` refusal 3.
-#[derive(Clone, Copy)]
-pub enum Domain {
-    Inside,
-    UnknownByte,
-    NoSuchRow,
+impl From<NoSuchRow> for WriteError {
+    ghost from_gives = { λ _ e. e ≡ refused_row };
+
+    fn from(_e: NoSuchRow) -> WriteError {
+        WriteError::NoSuchRow
+    }
 }
 
-// The two bytes of a preamble. `NoSuchRow` is refusal 3.
-#[derive(Clone, Copy)]
-pub enum RowBytes {
-    Are(Pair),
-    NoSuchRow,
-}
-
-// The two bytes of a control, channel, field and parity aside, or its refusal.
-#[derive(Clone, Copy)]
-pub(crate) enum Bytes {
-    Are(Pair),
-    UnknownByte,
-    NoSuchRow,
-}
-
-impl Code {
-    // The pair that the code is sent as: a single code with NUL after it, a command by itself.
-    #[tactic(auto, unfolding(crate::specs::Write::write_code))]
-    pub fn write(self) -> Written
-        ensures { written_outcome result ≡ write_code self }
-    {
-        match self {
-            Code::Nul => Written::Made(Pair(0x80, 0x80), 1),
-            Code::Control(code) => code.write(),
-            Code::Letter(letter) => Written::Made(Pair(add_parity(0x20 + letter.place()), 0x80), 1),
-            Code::Unknown(byte) => {
-                if byte < 0x80 {
-                    Written::Made(Pair(add_parity(byte), 0x80), 1)
-                } else {
-                    Written::UnknownByte
-                }
-            }
-        }
+// The seven bits of a byte of an `Unknown`.
+pub(crate) fn seven_bits(byte: u8) -> Result<u8, WriteError>
+    ensures { seven_bits_outcome result ≡ of_seven_bits (is_seven_bits byte) byte }
+{
+    if byte < 0x80 {
+        Ok(byte)
+    } else {
+        Err(WriteError::UnknownByte)
     }
 }
 
 impl Code {
+    // The pair that the code is sent as, and how many of its bytes the code fills: a single code with NUL after it, a
+    // command by itself.
+    #[tactic(auto, unfolding(crate::specs::Write::write_code))]
+    pub fn write(self) -> Result<(Pair, usize), WriteError>
+        ensures { written_outcome result ≡ write_code self }
+    {
+        let byte = match self {
+            Code::Nul => 0,
+            Code::Control(code) => return code.write(),
+            Code::Letter(letter) => 0x20 + letter.place(),
+            Code::Unknown(byte) => seven_bits(byte)?,
+        };
+        Ok((Pair(add_parity(byte), 0x80), 1))
+    }
+
     // Whether the code can be written, without writing it.
     #[tactic(auto, unfolding(crate::specs::Write::in_domain))]
-    pub fn domain(self) -> Domain
+    pub fn domain(self) -> Result<(), WriteError>
         ensures { domain_outcome result ≡ in_domain self }
     {
         match self {
-            Code::Nul => Domain::Inside,
-            Code::Control(code) => {
-                let control = code.control;
-                control.domain()
-            }
-            Code::Letter(_) => Domain::Inside,
+            Code::Control(code) => code.control.domain(),
             Code::Unknown(byte) => {
-                if byte < 0x80 {
-                    Domain::Inside
-                } else {
-                    Domain::UnknownByte
-                }
+                seven_bits(byte)?;
+                Ok(())
             }
+            Code::Nul | Code::Letter(_) => Ok(()),
         }
     }
 }
 
 impl Control {
     // As `Code::domain`.
-    pub(crate) fn domain(self) -> Domain
+    pub(crate) fn domain(self) -> Result<(), WriteError>
         ensures { domain_outcome result ≡ control_in_domain self }
     {
         match self {
-            Control::MidRow(_) => Domain::Inside,
-            Control::Symbol(_) => Domain::Inside,
-            Control::Command(_) => Domain::Inside,
-            Control::Tab(_) => Domain::Inside,
             Control::Preamble(preamble) => {
-                let row = preamble.row;
-                if row < 15 {
-                    Domain::Inside
-                } else {
-                    Domain::NoSuchRow
-                }
+                preamble.bytes()?;
+                Ok(())
             }
             Control::Unknown(first, second) => {
-                if 0x80 <= first {
-                    return Domain::UnknownByte;
-                }
-                if 0x80 <= second {
-                    return Domain::UnknownByte;
-                }
-                Domain::Inside
+                seven_bits(first)?;
+                seven_bits(second)?;
+                Ok(())
             }
+            _ => Ok(()),
         }
     }
 }
 
 impl ControlCode {
     // The pair that the control code is sent as.
-    pub(crate) fn write(self) -> Written
+    pub(crate) fn write(self) -> Result<(Pair, usize), WriteError>
         ensures { written_outcome result ≡ as_command self.field self.channel (control_bytes self.control) }
     {
-        let field = self.field;
-        let channel = self.channel;
-        let control = self.control;
-        match control.bytes() {
-            Bytes::Are(bytes) => Written::Made(on_line(field, channel, bytes), 2),
-            Bytes::UnknownByte => Written::UnknownByte,
-            Bytes::NoSuchRow => Written::NoSuchRow,
-        }
+        let bytes = self.control.bytes()?;
+        Ok((on_line(self.field, self.channel, bytes), 2))
     }
 }
 
 // Two bytes with their field, channel and parity.
 #[tactic(auto, unfolding(crate::specs::Write::on_line))]
-pub fn on_line(field: CodeField, channel: Channel, bytes: Pair) -> Pair
+pub fn on_line(field: Option<Field>, channel: Channel, bytes: Pair) -> Pair
     ensures { result ≡ on_line field channel bytes }
 {
     let first = with_channel(channel, with_field(field, bytes));
@@ -152,24 +118,12 @@ pub fn on_line(field: CodeField, channel: Channel, bytes: Pair) -> Pair
 }
 
 // The first byte for a field: 15 for 14 before 20 to 2F on field two.
-pub(crate) fn with_field(field: CodeField, bytes: Pair) -> u8
+pub(crate) fn with_field(field: Option<Field>, bytes: Pair) -> u8
     ensures { result ≡ with_field field bytes }
 {
-    let first = bytes.0;
-    let second = bytes.1;
     match field {
-        CodeField::Of(named) => {
-            if named.0 {
-                return first;
-            }
-            if first == 0x14 {
-                if names_field(second) {
-                    return 0x15;
-                }
-            }
-            first
-        }
-        CodeField::Absent => first,
+        Some(Field(false)) if bytes.0 == 0x14 && names_field(bytes.1) => 0x15,
+        _ => bytes.0,
     }
 }
 
@@ -177,40 +131,26 @@ pub(crate) fn with_field(field: CodeField, bytes: Pair) -> u8
 pub(crate) fn with_channel(channel: Channel, first: u8) -> u8
     ensures { result ≡ with_channel channel first }
 {
-    if channel.0 {
-        return first;
+    if channel.0 || first / 8 % 2 == 1 {
+        first
+    } else {
+        first + 8
     }
-    if first / 8 % 2 == 1 { first } else { first + 8 }
 }
 
 impl Control {
     // The two bytes of a control, channel, field and parity aside.
     #[tactic(auto, unfolding(crate::specs::Write::control_bytes))]
-    pub(crate) fn bytes(self) -> Bytes
+    pub(crate) fn bytes(self) -> Result<Pair, WriteError>
         ensures { bytes_outcome result ≡ control_bytes self }
     {
         match self {
-            Control::MidRow(code) => Bytes::Are(code.bytes()),
-            Control::Symbol(symbol) => Bytes::Are(symbol.bytes()),
-            Control::Command(command) => Bytes::Are(command.bytes()),
-            Control::Tab(tab) => Bytes::Are(tab.bytes()),
-            Control::Preamble(preamble) => {
-                let row = preamble.row;
-                if row < 15 {
-                    Bytes::Are(preamble.bytes_in_row())
-                } else {
-                    Bytes::NoSuchRow
-                }
-            }
-            Control::Unknown(first, second) => {
-                if 0x80 <= first {
-                    return Bytes::UnknownByte;
-                }
-                if 0x80 <= second {
-                    return Bytes::UnknownByte;
-                }
-                Bytes::Are(Pair(first, second))
-            }
+            Control::MidRow(code) => Ok(code.bytes()),
+            Control::Symbol(symbol) => Ok(symbol.bytes()),
+            Control::Command(command) => Ok(command.bytes()),
+            Control::Tab(tab) => Ok(tab.bytes()),
+            Control::Preamble(preamble) => Ok(preamble.bytes()?),
+            Control::Unknown(first, second) => Ok(Pair(seven_bits(first)?, seven_bits(second)?)),
         }
     }
 }
@@ -220,12 +160,7 @@ impl MidRow {
     pub fn bytes(self) -> Pair
         ensures { result ≡ mid_row_bytes self }
     {
-        let number = self.number();
-        if self.underline {
-            Pair(0x11, 0x20 + 2 * number + 1)
-        } else {
-            Pair(0x11, 0x20 + 2 * number)
-        }
+        Pair(0x11, 0x20 + 2 * self.number() + self.underline as u8)
     }
 }
 
@@ -249,10 +184,8 @@ impl Symbol {
     pub fn bytes(self) -> Pair
         ensures { result ≡ symbol_bytes self }
     {
-        let row = self.row;
-        let column = self.column;
-        let base = row.base();
-        Pair(base.0, base.1 + column.number())
+        let base = self.row.base();
+        Pair(base.0, base.1 + self.column.number())
     }
 }
 
@@ -275,29 +208,17 @@ impl Tab {
 }
 
 impl PreambleAddressCode {
-    // The two bytes of a preamble, channel, field and parity aside.
-    pub fn bytes(self) -> RowBytes
+    // The row's prefix, and in the second byte twice the style and the underline; channel, field and parity aside.
+    pub fn bytes(self) -> Result<Pair, NoSuchRow>
         ensures { row_bytes_outcome result ≡ row_bytes self }
     {
-        let row = self.row;
-        if 15 <= row {
-            return RowBytes::NoSuchRow;
+        if 15 <= self.row {
+            return Err(NoSuchRow);
         }
-        RowBytes::Are(self.bytes_in_row())
-    }
-
-    // The row's prefix, and in the second byte twice the style and the underline.
-    pub(crate) fn bytes_in_row(self) -> Pair
-        requires { self.row < 15 }
-        ensures { result ≡ preamble_bytes self }
-    {
         let prefix = row_prefix(self.row);
-        let ty = self.ty;
-        let style = ty.style();
-        if self.underline {
-            Pair(prefix.0, prefix.1 + 2 * style + 1)
-        } else {
-            Pair(prefix.0, prefix.1 + 2 * style)
-        }
+        Ok(Pair(
+            prefix.0,
+            prefix.1 + 2 * self.ty.style() + self.underline as u8,
+        ))
     }
 }

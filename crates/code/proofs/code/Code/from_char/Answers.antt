@@ -1,6 +1,6 @@
 -- 0 is refused, a letter is one entry after its place, and the rest is the symbols' search.
-use Rattle.std.proofs.Common.{ap, ◌∙◌, arith}
-use Rattle.code.proofs.First.{searched_none, searched_some}
+use Rattle.std.proofs.Common.{None, Some, ap, ◌∙◌, arith}
+use Rattle.code.proofs.First.{searched}
 use Rattle.code.proofs.Lookup.{found_letter, found_no_letter, letter_inside, zero_has_no_code}
 use Rattle.code.specs.Outcome.{answer}
 use Rattle.code.specs.declared.code.Code.TheVariants as code
@@ -12,29 +12,29 @@ returns-then-c-eq0 c = rw c.if-c-eq0.true (zero_has_no_code _)
 
 pub overflow_sub-entry : goal.overflow_sub-entry
 overflow_sub-entry c =
-    let place = searched_some c.args.c _ _ _ c.in-At.ensures c.code_table-table.ensures in
+    let place = searched c.args.c _ _ (Some _) c.in-Some.ensures c.code_table-table.ensures in
     let inside = letter_inside c.args.c c.args.channel c.if-c-eq0.false _ place in
     omega arith
 
 pub overflow_cast-entry : goal.overflow_cast-entry
 overflow_cast-entry c =
-    let place = searched_some c.args.c _ _ _ c.in-At.ensures c.code_table-table.ensures in
+    let place = searched c.args.c _ _ (Some _) c.in-Some.ensures c.code_table-table.ensures in
     let inside = letter_inside c.args.c c.args.channel c.if-c-eq0.false _ place in
     omega arith
 
 pub at-requires : goal.at-requires
 at-requires c =
     (letter_inside c.args.c c.args.channel c.if-c-eq0.false _
-    (searched_some c.args.c _ _ _ c.in-At.ensures c.code_table-table.ensures)).1
+    (searched c.args.c _ _ (Some _) c.in-Some.ensures c.code_table-table.ensures)).1
 
-pub returns-in-At : goal.returns-in-At
-returns-in-At c =
+pub returns-in-Some : goal.returns-in-Some
+returns-in-Some c =
     ap (λ (l : Letter). answer (code.Letter l)) c.at.ensures
     ∙ found_letter c.args.c c.args.channel c.if-c-eq0.false _
-    (searched_some c.args.c _ _ _ c.in-At.ensures c.code_table-table.ensures)
+    (searched c.args.c _ _ (Some _) c.in-Some.ensures c.code_table-table.ensures)
 
-pub returns-in-Absent : goal.returns-in-Absent
-returns-in-Absent c =
+pub returns-in-None : goal.returns-in-None
+returns-in-None c =
     c.symbol_from_char.ensures
     ∙ found_no_letter c.args.c c.args.channel c.if-c-eq0.false
-    (searched_none c.args.c _ _ c.in-Absent.ensures c.code_table-table.ensures)
+    (searched c.args.c _ _ None c.in-None.ensures c.code_table-table.ensures)
