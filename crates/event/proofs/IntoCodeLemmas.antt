@@ -1,5 +1,6 @@
 -- An event that is no text becomes one control code, for the field that was asked and the event's channel, and NUL.
 -- Assumes nothing.
+use Rattle.std.specs.Prelude.{Some}
 use mathlib.Core.Bool.{false, true≢false}
 use mathlib.Core.Path.{◌≡◌}
 use Prim.Native.Nat.{ℕ}
@@ -11,7 +12,6 @@ use Rattle.code.specs.declared.channel.Channel.{Channel}
 use Rattle.code.specs.declared.channel.Field.{Field}
 use Rattle.code.specs.declared.code.Code.{Code}
 use Rattle.code.specs.declared.code.Code.TheVariants as code
-use Rattle.code.specs.declared.control.CodeField.TheVariants.{Of}
 use Rattle.code.specs.declared.control.Control.{Control}
 use Rattle.code.specs.declared.control.Control.TheVariants as control
 use Rattle.event.specs.Event.{channel_of_event, is_text}
@@ -21,7 +21,7 @@ use Rattle.event.specs.declared.event.Cea608.TheVariants as event
 
 -- a control code for a field and a channel, and NUL
 abbrev pub IsAlone : Field → Channel → Code → Code → Type 0
-IsAlone f ch x y = (c : Control) × (x ≡ code.Control (record { field = Of f; channel = ch; control = c })) × (y ≡ code.Nul)
+IsAlone f ch x y = (c : Control) × (x ≡ code.Control (record { field = Some f; channel = ch; control = c })) × (y ≡ code.Nul)
 
 is_alone : (f : Field) (ch : Channel) (c : Control) (x y : Code) → alone f ch c ≡ codes x y → IsAlone f ch x y
 is_alone f ch c x y told = (c, cc, cc)

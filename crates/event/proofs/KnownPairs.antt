@@ -13,7 +13,6 @@ use Rattle.code.specs.Characters.{standard, symbols}
 use Rattle.code.specs.Code.{from_char}
 use Rattle.code.specs.Outcome.{answer, refused}
 use Rattle.code.specs.Write.{control_bytes, on_line, write_code}
-use Rattle.code.specs.declared.character.Character.TheVariants.{Point}
 use Rattle.code.specs.declared.color.Color.TheVariants.{White}
 use Rattle.code.specs.declared.preamble.PreambleType.TheVariants.{Color}
 use Rattle.event.specs.Id.{channel_of_id, field_of_id, from_value}
@@ -49,7 +48,7 @@ refused_4 = refl
 
 -- two €, and A before a €: the first character is looked up first
 abbrev said : ℕ → ℕ → Cea608
-said c d = event.Text (record { needs_backspace = false; char1 = Point c; char2 = Point d; channel = channel_one })
+said c d = event.Text (record { needs_backspace = false; char1 = Some c; char2 = Some d; channel = channel_one })
 
 pub refused_5 : (codes_of (said 0x20AC 0x20AC) field_one ≡ no_first 5) × (codes_of (said 0x41 0x20AC) field_one ≡ no_second 5)
 unfolding codes_of from_char standard symbols

@@ -1,12 +1,12 @@
 -- The caption services and refusal 6, from 01: 1 and 2 are channels one and two of field one, 3 and 4 of field two.
+use Rattle.std.specs.Prelude.{Result}
+use Rattle.event.specs.declared.id.NoSuchId.{NoSuchId}
 use Rattle.std.specs.Prelude.{ℕ, cond, ℤ, pos, negsuc, eqb}
 use Rattle.code.specs.Channel.{channel_one, channel_two, field_one, field_two}
-use Rattle.code.specs.Outcome.{Outcome, answer, refused}
+use Rattle.code.specs.Outcome.{Outcome, answer, outcome, refused}
 use Rattle.code.specs.Range.{within}
 use Rattle.code.specs.declared.channel.Channel.{Channel}
 use Rattle.code.specs.declared.channel.Field.{Field}
-use Rattle.event.specs.declared.id.FromValue.{FromValue}
-use Rattle.event.specs.declared.id.FromValue.TheVariants.{Made, NoSuchId}
 use Rattle.event.specs.declared.id.Id.{Id}
 use Rattle.event.specs.declared.id.Id.TheVariants.{CC1, CC2, CC3, CC4}
 
@@ -33,6 +33,5 @@ abbrev pub from_value : ℤ → Outcome Id
 from_value (pos n) = cond (within 1 4 n) (answer (service_of n)) (refused 6)
 from_value (negsuc n) = refused 6
 
-abbrev pub from_value_outcome : FromValue → Outcome Id
-from_value_outcome (Made i) = answer i
-from_value_outcome NoSuchId = refused 6
+abbrev pub from_value_outcome : Result Id NoSuchId → Outcome Id
+from_value_outcome r = outcome (λ e. 6) r

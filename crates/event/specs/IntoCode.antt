@@ -2,6 +2,10 @@
 -- codes of two characters, NUL for one that is absent. The refusals are 01's: 3 for a row above 14, 4 for a tab count
 -- other than 1, 2, 3, and 5 for a character that no code has, the first looked up before the second. A refusal gives no
 -- code at all.
+use Rattle.std.specs.Prelude.{Result, Ok, Err}
+use Rattle.event.specs.declared.into_code.IntoCodeError.{IntoCodeError}
+use Rattle.event.specs.declared.into_code.IntoCodeError.TheVariants.{NoSuchRow, NoSuchTab, NoSuchFirst, NoSuchSecond}
+use Rattle.std.specs.Prelude.{None, Option, Some}
 use Rattle.std.specs.Prelude.{ℕ}
 use Rattle.code.specs.Code.{from_char}
 use Rattle.code.specs.Control.{control_code, tab_offset}
@@ -9,8 +13,6 @@ use Rattle.code.specs.Outcome.{Outcome, answer, refused}
 use Rattle.code.specs.Preamble.{in_row}
 use Rattle.code.specs.declared.channel.Channel.{Channel}
 use Rattle.code.specs.declared.channel.Field.{Field}
-use Rattle.code.specs.declared.character.Character.{Character}
-use Rattle.code.specs.declared.character.Character.TheVariants as character
 use Rattle.code.specs.declared.code.Code.{Code}
 use Rattle.code.specs.declared.code.Code.TheVariants as code
 use Rattle.code.specs.declared.control.Command.{Command}
@@ -22,8 +24,6 @@ use Rattle.event.specs.Mode.{command_of}
 use Rattle.event.specs.declared.event.Cea608.{Cea608}
 use Rattle.event.specs.declared.event.Cea608.TheVariants as event
 use Rattle.event.specs.declared.event.Text.{Text}
-use Rattle.event.specs.declared.into_code.IntoCode.{IntoCode}
-use Rattle.event.specs.declared.into_code.IntoCode.TheVariants as into
 
 -- two codes, or 01's number of a refusal, which can be for the first or for the second character
 pub data Turned : Type 0 where
@@ -50,9 +50,9 @@ abbrev pub preamble_codes : Field → Channel → PreambleAddressCode → Turned
 preamble_codes f ch p = or_refusal f ch (in_row p.row (control.Preamble p))
 
 -- a character's code, NUL for none
-abbrev pub character_code : Character → Channel → Outcome Code
-character_code (character.Point c) ch = from_char c ch
-character_code character.Absent ch = answer code.Nul
+abbrev pub character_code : Option ℕ → Channel → Outcome Code
+character_code (Some c) ch = from_char c ch
+character_code None ch = answer code.Nul
 
 abbrev pub with_second : Code → Outcome Code → Turned
 with_second x (answer y) = codes x y
@@ -78,9 +78,12 @@ codes_of (event.DeleteToEndOfRow ch) f = command_alone f ch command.DeleteToEndO
 codes_of (event.Preamble ch p) f = preamble_codes f ch p
 codes_of (event.MidRowChange ch m) f = alone f ch (control.MidRow m)
 
-abbrev pub into_code_outcome : IntoCode → Turned
-into_code_outcome (into.Codes x y) = codes x y
-into_code_outcome into.NoSuchRow = refusal 3
-into_code_outcome into.NoSuchTab = refusal 4
-into_code_outcome into.NoSuchFirst = no_first 5
-into_code_outcome into.NoSuchSecond = no_second 5
+abbrev pub turned_down : IntoCodeError → Turned
+turned_down NoSuchRow = refusal 3
+turned_down NoSuchTab = refusal 4
+turned_down NoSuchFirst = no_first 5
+turned_down NoSuchSecond = no_second 5
+
+abbrev pub into_code_outcome : Result (Code × Code) IntoCodeError → Turned
+into_code_outcome (Ok x) = codes x.0 x.1
+into_code_outcome (Err e) = turned_down e

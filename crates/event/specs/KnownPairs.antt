@@ -3,45 +3,21 @@
 -- definitions to bytes: whoever exchanges two events, rows, styles or modes in a definition and in its code meets this
 -- list. Commands without an event are in `KnownPairs` of `receiver`. `written_as_known` in proofs/KnownPairs.antt goes from
 -- the events to the pairs; the crate `receiver` goes back.
+use Rattle.std.specs.Prelude.{None, Option, Some}
 use Rattle.std.specs.Prelude.{ℕ, Bool, true, false, List, [], ◌∷◌, ◌++◌}
 use Rattle.code.specs.Channel.{channel_one, field_one}
 use Rattle.code.specs.MidRow.{colored, italic}
 use Rattle.code.specs.Outcome.{Outcome, refused}
 use Rattle.code.specs.Pair.{pair}
 use Rattle.code.specs.Write.{write_two}
-use Rattle.code.specs.declared.character.Character.{Character}
-use Rattle.code.specs.declared.character.Character.TheVariants.{Absent, Point}
 use Rattle.code.specs.declared.color.Color.TheVariants.{White, Green, Blue, Cyan, Red, Yellow, Magenta}
 use Rattle.code.specs.declared.midrow.MidRow.{MidRow}
 use Rattle.code.specs.declared.pair.Pair.{Pair}
 use Rattle.code.specs.declared.preamble.PreambleType.{PreambleType}
-use Rattle.code.specs.declared.preamble.PreambleType.TheVariants.{
-  Color,
-  WhiteItalics,
-  Indent0,
-  Indent4,
-  Indent8,
-  Indent12,
-  Indent16,
-  Indent20,
-  Indent24,
-  Indent28,
-}
+use Rattle.code.specs.declared.preamble.PreambleType.TheVariants.{Color, WhiteItalics, Indent0, Indent4, Indent8, Indent12, Indent16, Indent20, Indent24, Indent28}
 use Rattle.event.specs.IntoCode.{Turned, codes, codes_of, no_first, no_second, refusal}
 use Rattle.event.specs.declared.event.Cea608.{Cea608}
-use Rattle.event.specs.declared.event.Cea608.TheVariants.{
-  Text,
-  NewMode,
-  EraseDisplay,
-  EraseNonDisplay,
-  CarriageReturn,
-  Backspace,
-  EndOfCaption,
-  TabOffset,
-  DeleteToEndOfRow,
-  Preamble,
-  MidRowChange,
-}
+use Rattle.event.specs.declared.event.Cea608.TheVariants.{Text, NewMode, EraseDisplay, EraseNonDisplay, CarriageReturn, Backspace, EndOfCaption, TabOffset, DeleteToEndOfRow, Preamble, MidRowChange}
 use Rattle.event.specs.declared.mode.Mode.{Mode}
 use Rattle.event.specs.declared.mode.Mode.TheVariants.{PopOn, PaintOn, RollUp2, RollUp3, RollUp4}
 
@@ -100,16 +76,16 @@ mid_rows =
     ∷ changes 0x2F (italic true) ∷ []
 
 -- text: standard characters, a special one, and an extended one of each row, which takes the place of the one before it
-abbrev shows : ℕ → ℕ → Bool → Character → Character → Known
+abbrev shows : ℕ → ℕ → Bool → Option ℕ → Option ℕ → Known
 shows a b back one two = known a b (Text (record { needs_backspace = back; char1 = one; char2 = two; channel = channel_one }))
 
 -- Hi; A alone; a note; Á, À, Ã, Ä
 abbrev texts : List Known
 texts =
-    shows 0xC8 0xE9 false (Point 0x48) (Point 0x69) ∷ shows 0xC1 0x80 false (Point 0x41) Absent
-    ∷ shows 0x91 0x37 false (Point 0x266A) Absent ∷ shows 0x92 0x20 true (Point 0xC1) Absent
-    ∷ shows 0x92 0xB0 true (Point 0xC0) Absent ∷ shows 0x13 0x20 true (Point 0xC3) Absent
-    ∷ shows 0x13 0xB0 true (Point 0xC4) Absent ∷ []
+    shows 0xC8 0xE9 false (Some 0x48) (Some 0x69) ∷ shows 0xC1 0x80 false (Some 0x41) None
+    ∷ shows 0x91 0x37 false (Some 0x266A) None ∷ shows 0x92 0x20 true (Some 0xC1) None
+    ∷ shows 0x92 0xB0 true (Some 0xC0) None ∷ shows 0x13 0x20 true (Some 0xC3) None
+    ∷ shows 0x13 0xB0 true (Some 0xC4) None ∷ []
 
 abbrev pub known_pairs : List Known
 known_pairs = commands ++ rows ++ styles ++ mid_rows ++ texts

@@ -5,12 +5,8 @@ use Rattle.std.specs.Prelude.{ℕ, Bool, true, false}
 use Rattle.std.specs.Prelude.{Option, None, Some}
 use Rattle.code.specs.declared.control.Command.{Command}
 use Rattle.code.specs.declared.control.Command.TheVariants as command
-use Rattle.event.specs.declared.mode.FromCommand.{FromCommand}
-use Rattle.event.specs.declared.mode.FromCommand.TheVariants as from
 use Rattle.event.specs.declared.mode.Mode.{Mode}
 use Rattle.event.specs.declared.mode.Mode.TheVariants.{PopOn, PaintOn, RollUp2, RollUp3, RollUp4}
-use Rattle.event.specs.declared.mode.RollupRows.{RollupRows}
-use Rattle.event.specs.declared.mode.RollupRows.TheVariants as rows
 
 abbrev pub command_of : Mode → Command
 command_of PopOn = command.ResumeCaptionLoading
@@ -37,20 +33,12 @@ mode_of command.CarriageReturn = None
 mode_of command.EraseNonDisplayedMemory = None
 mode_of command.EndOfCaption = None
 
-abbrev pub from_command_outcome : FromCommand → Option Mode
-from_command_outcome (from.Begins m) = Some m
-from_command_outcome from.Absent = None
-
 abbrev pub rollup_rows : Mode → Option ℕ
 rollup_rows PopOn = None
 rollup_rows PaintOn = None
 rollup_rows RollUp2 = Some 2
 rollup_rows RollUp3 = Some 3
 rollup_rows RollUp4 = Some 4
-
-abbrev pub rollup_rows_outcome : RollupRows → Option ℕ
-rollup_rows_outcome (rows.Rows n) = Some n
-rollup_rows_outcome rows.Absent = None
 
 -- a mode is a roll-up mode where it has rows
 abbrev pub has_rows : Option ℕ → Bool

@@ -3,15 +3,16 @@ ghost use Rattle.std.specs.Prelude.{◌≡◌};
 ghost use Rattle.event.specs.Event.{channel_of_event};
 
 use crate::mode::Mode;
-use code::{Channel, Character, MidRow, PreambleAddressCode};
+use code::{Channel, MidRow, PreambleAddressCode};
 
 // One or two characters for a channel.
 #[derive(Clone, Copy)]
 pub struct Text {
     // Whether the characters take the place of the one before them.
     pub needs_backspace: bool,
-    pub char1: Character,
-    pub char2: Character,
+    // The characters' code points.
+    pub char1: Option<u32>,
+    pub char2: Option<u32>,
     pub channel: Channel,
 }
 
@@ -48,16 +49,16 @@ impl Cea608 {
     {
         match self {
             Cea608::Text(text) => text.channel,
-            Cea608::NewMode(channel, _) => channel,
-            Cea608::EraseDisplay(channel) => channel,
-            Cea608::EraseNonDisplay(channel) => channel,
-            Cea608::CarriageReturn(channel) => channel,
-            Cea608::Backspace(channel) => channel,
-            Cea608::EndOfCaption(channel) => channel,
-            Cea608::TabOffset(channel, _) => channel,
-            Cea608::DeleteToEndOfRow(channel) => channel,
-            Cea608::Preamble(channel, _) => channel,
-            Cea608::MidRowChange(channel, _) => channel,
+            Cea608::NewMode(channel, _)
+            | Cea608::EraseDisplay(channel)
+            | Cea608::EraseNonDisplay(channel)
+            | Cea608::CarriageReturn(channel)
+            | Cea608::Backspace(channel)
+            | Cea608::EndOfCaption(channel)
+            | Cea608::TabOffset(channel, _)
+            | Cea608::DeleteToEndOfRow(channel)
+            | Cea608::Preamble(channel, _)
+            | Cea608::MidRowChange(channel, _) => channel,
         }
     }
 }

@@ -16,24 +16,21 @@ pub enum Id {
     CC4,
 }
 
-// A service by its number. `NoSuchId` is refusal 6.
-#[derive(Clone, Copy)]
-pub enum FromValue {
-    Made(Id),
-    NoSuchId,
-}
+// Refusal 6: no service has this number.
+#[derive(Clone, Copy, Debug, PartialEq, Eq)]
+pub struct NoSuchId;
 
 impl Id {
     // The service of a number of 1 to 4.
-    pub fn from_value(value: i8) -> FromValue
+    pub fn from_value(value: i8) -> Result<Id, NoSuchId>
         ensures { from_value_outcome result ≡ from_value value }
     {
         match value {
-            1 => FromValue::Made(Id::CC1),
-            2 => FromValue::Made(Id::CC2),
-            3 => FromValue::Made(Id::CC3),
-            4 => FromValue::Made(Id::CC4),
-            _ => FromValue::NoSuchId,
+            1 => Ok(Id::CC1),
+            2 => Ok(Id::CC2),
+            3 => Ok(Id::CC3),
+            4 => Ok(Id::CC4),
+            _ => Err(NoSuchId),
         }
     }
 
@@ -41,10 +38,11 @@ impl Id {
     pub fn from_caption_field_channel(field: Field, channel: Channel) -> Id
         ensures { result ≡ id_of field channel }
     {
-        if field.0 {
-            if channel.0 { Id::CC1 } else { Id::CC2 }
-        } else {
-            if channel.0 { Id::CC3 } else { Id::CC4 }
+        match (field, channel) {
+            (Field(true), Channel(true)) => Id::CC1,
+            (Field(true), Channel(false)) => Id::CC2,
+            (Field(false), Channel(true)) => Id::CC3,
+            (Field(false), Channel(false)) => Id::CC4,
         }
     }
 
@@ -53,10 +51,8 @@ impl Id {
         ensures { result ≡ field_of_id self }
     {
         match self {
-            Id::CC1 => Field::ONE,
-            Id::CC2 => Field::ONE,
-            Id::CC3 => Field::TWO,
-            Id::CC4 => Field::TWO,
+            Id::CC1 | Id::CC2 => Field::ONE,
+            Id::CC3 | Id::CC4 => Field::TWO,
         }
     }
 
@@ -65,10 +61,8 @@ impl Id {
         ensures { result ≡ channel_of_id self }
     {
         match self {
-            Id::CC1 => Channel::ONE,
-            Id::CC2 => Channel::TWO,
-            Id::CC3 => Channel::ONE,
-            Id::CC4 => Channel::TWO,
+            Id::CC1 | Id::CC3 => Channel::ONE,
+            Id::CC2 | Id::CC4 => Channel::TWO,
         }
     }
 }

@@ -3,28 +3,36 @@ ghost use Rattle.std.specs.Prelude.{◌≡◌};
 ghost use Rattle.event.specs.IntoCode.{codes_of, into_code_outcome, text_codes, tab_codes, preamble_codes, alone, command_alone};
 ghost use Rattle.event.specs.IntoCode.{character_code};
 ghost use Rattle.code.specs.Code.{from_char_outcome};
+ghost use Rattle.event.specs.declared.into_code.IntoCodeError.TheVariants.{NoSuchTab as no_such_tab};
 
 use crate::event::{Cea608, Text};
 use code::{
-    Channel, Character, Code, CodeField, Command, Control, ControlCode, Field, FromChar,
-    PreambleAddressCode, TabOffset,
+    Channel, Code, Command, Control, ControlCode, Field, NoSuchCharacter, NoSuchTab,
+    PreambleAddressCode,
 };
 
-// The codes of an event, or why it has none: `NoSuchRow` is refusal 3, `NoSuchTab` 4, and `NoSuchFirst` and
-// `NoSuchSecond` are 5, for the first and for the second character.
-#[derive(Clone, Copy)]
-pub enum IntoCode {
-    Codes(Code, Code),
+// Why an event has no codes: `NoSuchRow` is refusal 3, `NoSuchTab` 4, and `NoSuchFirst` and `NoSuchSecond` are 5, for the
+// first and for the second character.
+#[derive(Clone, Copy, Debug, PartialEq, Eq)]
+pub enum IntoCodeError {
     NoSuchRow,
     NoSuchTab,
     NoSuchFirst,
     NoSuchSecond,
 }
 
+impl From<NoSuchTab> for IntoCodeError {
+    ghost from_gives = { λ _ e. e ≡ no_such_tab };
+
+    fn from(_e: NoSuchTab) -> IntoCodeError {
+        IntoCodeError::NoSuchTab
+    }
+}
+
 impl Cea608 {
     // The event's codes for a field: a control code and NUL, or two characters, NUL for one that is absent.
     #[tactic(auto, unfolding(crate::specs::IntoCode::codes_of))]
-    pub fn into_code(self, field: Field) -> IntoCode
+    pub fn into_code(self, field: Field) -> Result<(Code, Code), IntoCodeError>
         ensures { into_code_outcome result ≡ codes_of self field }
     {
         match self {
@@ -64,33 +72,36 @@ impl Cea608 {
 }
 
 // A control code and NUL.
-pub(crate) fn control_alone(field: Field, channel: Channel, control: Control) -> IntoCode
+pub(crate) fn control_alone(
+    field: Field,
+    channel: Channel,
+    control: Control,
+) -> Result<(Code, Code), IntoCodeError>
     ensures { into_code_outcome result ≡ alone field channel control }
 {
-    IntoCode::Codes(
-        Code::Control(ControlCode {
-            field: CodeField::Of(field),
-            channel: channel,
-            control: control,
-        }),
-        Code::Nul,
-    )
+    let code = ControlCode::new(field, channel, control);
+    Ok((Code::Control(code), Code::Nul))
 }
 
-pub(crate) fn command_alone(field: Field, channel: Channel, command: Command) -> IntoCode
+pub(crate) fn command_alone(
+    field: Field,
+    channel: Channel,
+    command: Command,
+) -> Result<(Code, Code), IntoCodeError>
     ensures { into_code_outcome result ≡ command_alone field channel command }
 {
     control_alone(field, channel, Control::Command(command))
 }
 
 // A tab of 1, 2 or 3 columns.
-pub(crate) fn tab_alone(field: Field, channel: Channel, count: u8) -> IntoCode
+pub(crate) fn tab_alone(
+    field: Field,
+    channel: Channel,
+    count: u8,
+) -> Result<(Code, Code), IntoCodeError>
     ensures { into_code_outcome result ≡ tab_codes field channel count }
 {
-    match Control::tab_offset(count) {
-        TabOffset::Made(control) => control_alone(field, channel, control),
-        TabOffset::NoSuchTab => IntoCode::NoSuchTab,
-    }
+    control_alone(field, channel, Control::tab_offset(count)?)
 }
 
 // A preamble of a row of 0 to 14.
@@ -98,41 +109,39 @@ pub(crate) fn preamble_alone(
     field: Field,
     channel: Channel,
     preamble: PreambleAddressCode,
-) -> IntoCode
+) -> Result<(Code, Code), IntoCodeError>
     ensures { into_code_outcome result ≡ preamble_codes field channel preamble }
 {
-    let row = preamble.row;
-    if row < 15 {
-        control_alone(field, channel, Control::Preamble(preamble))
-    } else {
-        IntoCode::NoSuchRow
+    if 15 <= preamble.row {
+        return Err(IntoCodeError::NoSuchRow);
     }
+    control_alone(field, channel, Control::Preamble(preamble))
 }
 
 impl Text {
     // The codes of the characters, the first looked up first.
-    pub(crate) fn into_code(self) -> IntoCode
+    pub(crate) fn into_code(self) -> Result<(Code, Code), IntoCodeError>
         ensures { into_code_outcome result ≡ text_codes self }
     {
-        let char1 = self.char1;
-        let char2 = self.char2;
-        let channel = self.channel;
-        let FromChar::Made(first) = character_code(char1, channel) else {
-            return IntoCode::NoSuchFirst;
+        let Ok(first) = character_code(self.char1, self.channel) else {
+            return Err(IntoCodeError::NoSuchFirst);
         };
-        let FromChar::Made(second) = character_code(char2, channel) else {
-            return IntoCode::NoSuchSecond;
+        let Ok(second) = character_code(self.char2, self.channel) else {
+            return Err(IntoCodeError::NoSuchSecond);
         };
-        IntoCode::Codes(first, second)
+        Ok((first, second))
     }
 }
 
 // The code of a character, NUL for none.
-pub(crate) fn character_code(character: Character, channel: Channel) -> FromChar
+pub(crate) fn character_code(
+    character: Option<u32>,
+    channel: Channel,
+) -> Result<Code, NoSuchCharacter>
     ensures { from_char_outcome result ≡ character_code character channel }
 {
     match character {
-        Character::Point(point) => Code::from_char(point, channel),
-        Character::Absent => FromChar::Made(Code::Nul),
+        Some(point) => Code::from_char(point, channel),
+        None => Ok(Code::Nul),
     }
 }

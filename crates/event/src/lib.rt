@@ -9,6 +9,6 @@ pub mod into_code;
 pub mod mode;
 
 pub use event::{Cea608, Text};
-pub use id::{FromValue, Id};
-pub use into_code::IntoCode;
-pub use mode::{FromCommand, Mode, RollupRows};
+pub use id::{Id, NoSuchId};
+pub use into_code::IntoCodeError;
+pub use mode::Mode;

@@ -1,6 +1,6 @@
 // The presentation modes: how captions appear on the screen.
 ghost use Rattle.std.specs.Prelude.{◌≡◌};
-ghost use Rattle.event.specs.Mode.{is_rollup, rollup_rows, rollup_rows_outcome, command_of, mode_of, from_command_outcome};
+ghost use Rattle.event.specs.Mode.{is_rollup, rollup_rows, command_of, mode_of};
 
 use code::Command;
 
@@ -18,43 +18,19 @@ pub enum Mode {
     RollUp4,
 }
 
-// The rows of a roll-up window; the other modes have none.
-#[derive(Clone, Copy)]
-pub enum RollupRows {
-    Rows(u8),
-    Absent,
-}
-
-// The mode that a command begins, where it begins one.
-#[derive(Clone, Copy)]
-pub enum FromCommand {
-    Begins(Mode),
-    Absent,
-}
-
 impl Mode {
-    // The mode that a command begins.
+    // The mode that a command begins, where it begins one.
     #[tactic(auto, unfolding(crate::specs::Mode::mode_of))]
-    pub fn from_command(command: Command) -> FromCommand
-        ensures { from_command_outcome result ≡ mode_of command }
+    pub fn from_command(command: Command) -> Option<Mode>
+        ensures { result ≡ mode_of command }
     {
         match command {
-            Command::ResumeCaptionLoading => FromCommand::Begins(Mode::PopOn),
-            Command::Backspace => FromCommand::Absent,
-            Command::AlarmOff => FromCommand::Absent,
-            Command::AlarmOn => FromCommand::Absent,
-            Command::DeleteToEndOfRow => FromCommand::Absent,
-            Command::RollUp2 => FromCommand::Begins(Mode::RollUp2),
-            Command::RollUp3 => FromCommand::Begins(Mode::RollUp3),
-            Command::RollUp4 => FromCommand::Begins(Mode::RollUp4),
-            Command::FlashOn => FromCommand::Absent,
-            Command::ResumeDirectionCaptioning => FromCommand::Begins(Mode::PaintOn),
-            Command::TextRestart => FromCommand::Absent,
-            Command::ResumeTextDisplay => FromCommand::Absent,
-            Command::EraseDisplayedMemory => FromCommand::Absent,
-            Command::CarriageReturn => FromCommand::Absent,
-            Command::EraseNonDisplayedMemory => FromCommand::Absent,
-            Command::EndOfCaption => FromCommand::Absent,
+            Command::ResumeCaptionLoading => Some(Mode::PopOn),
+            Command::RollUp2 => Some(Mode::RollUp2),
+            Command::RollUp3 => Some(Mode::RollUp3),
+            Command::RollUp4 => Some(Mode::RollUp4),
+            Command::ResumeDirectionCaptioning => Some(Mode::PaintOn),
+            _ => None,
         }
     }
 
@@ -75,25 +51,18 @@ impl Mode {
     pub fn is_rollup(self) -> bool
         ensures { result ≡ is_rollup self }
     {
-        match self {
-            Mode::PopOn => false,
-            Mode::PaintOn => false,
-            Mode::RollUp2 => true,
-            Mode::RollUp3 => true,
-            Mode::RollUp4 => true,
-        }
+        self.rollup_rows().is_some()
     }
 
-    // The rows of the roll-up window, or none.
-    pub fn rollup_rows(self) -> RollupRows
-        ensures { rollup_rows_outcome result ≡ rollup_rows self }
+    // The rows of the roll-up window; the other modes have none.
+    pub fn rollup_rows(self) -> Option<u8>
+        ensures { result ≡ rollup_rows self }
     {
         match self {
-            Mode::PopOn => RollupRows::Absent,
-            Mode::PaintOn => RollupRows::Absent,
-            Mode::RollUp2 => RollupRows::Rows(2),
-            Mode::RollUp3 => RollupRows::Rows(3),
-            Mode::RollUp4 => RollupRows::Rows(4),
+            Mode::PopOn | Mode::PaintOn => None,
+            Mode::RollUp2 => Some(2),
+            Mode::RollUp3 => Some(3),
+            Mode::RollUp4 => Some(4),
         }
     }
 }

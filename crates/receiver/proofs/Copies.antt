@@ -2,6 +2,8 @@
 -- read where it is the last pair, the other way round. Proved of the answers, and of the states too, which distinguish
 -- an acting copy from a skipped one even where the command has no event.
 -- Assumes nothing.
+use Rattle.std.specs.Prelude.{Some}
+use Rattle.code.specs.declared.channel.Field.{Field}
 use mathlib.Core.Bool.{Bool, true, false, cond}
 use mathlib.Core.List.{List, [], ◌∷◌}
 use Rattle.std.specs.Prelude.{Option, None}
@@ -10,8 +12,6 @@ use Prim.Native.Nat.{ℕ, zero, suc}
 use lib.ListN.{replicate}
 use Rattle.code.proofs.SamePair.{same_itself}
 use Rattle.code.specs.Outcome.{Outcome, answer}
-use Rattle.code.specs.declared.control.CodeField.{CodeField}
-use Rattle.code.specs.declared.control.CodeField.TheVariants as field
 use Rattle.code.specs.declared.control.ControlCode.{ControlCode}
 use Rattle.code.specs.declared.pair.Pair.{Pair}
 use Rattle.event.specs.declared.event.Cea608.{Cea608}
@@ -20,21 +20,19 @@ use Rattle.receiver.specs.Heard.{event_of}
 use Rattle.receiver.specs.Reading.{answers, steps}
 use Rattle.receiver.specs.Receiver.{acts, field_after, forgotten, is_last, Stepped}
 use Rattle.receiver.specs.declared.state.Cea608State.{Cea608State}
-use Rattle.receiver.specs.declared.state.LastField.{LastField}
-use Rattle.receiver.specs.declared.state.LastPair.TheVariants as last
 
 -- n in all, a and b in turn
 abbrev pub in_turn : {A : Type 0} → ℕ → A → A → List A
 in_turn zero a b = []
 in_turn (suc n) a b = a ∷ in_turn n b a
 
-pub last_is_last : (p : Pair) → is_last p (last.Was p) ≡ true
+pub last_is_last : (p : Pair) → is_last p (Some p) ≡ true
 last_is_last p = same_itself p
 
 -- a command that acts again sets no other field
-pub field_again : (f : CodeField) (before : LastField) → field_after f (field_after f before) ≡ field_after f before
-field_again (field.Of x) before = refl
-field_again field.Absent before = refl
+pub field_again : (f : Option Field) (before : Option Field) → field_after f (field_after f before) ≡ field_after f before
+field_again (Some x) before = refl
+field_again None before = refl
 
 module _ (p : Pair) (c : ControlCode) (command : IsCommand p c) where
   abbrev acted : Outcome (Option Cea608)

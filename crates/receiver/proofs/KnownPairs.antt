@@ -11,7 +11,6 @@ use Rattle.code.specs.Code.{char_of}
 use Rattle.code.specs.Outcome.{answer}
 use Rattle.code.specs.Pair.{pair}
 use Rattle.code.specs.Read.{control_code_of, meaning, read_pair}
-use Rattle.code.specs.declared.character.Character.TheVariants.{Point}
 use Rattle.code.specs.declared.code.Code.TheVariants as code
 use Rattle.event.specs.KnownPairs.{Known, known_pairs}
 use Rattle.event.specs.Mode.{mode_of}
@@ -22,7 +21,6 @@ use Rattle.receiver.specs.KnownPairs.{Leaves, Silent, known_to_leave, on_channel
 use Rattle.receiver.specs.Reading.{after, answers}
 use Rattle.receiver.specs.Receiver.{fresh, last_field, step}
 use Rattle.receiver.specs.declared.state.LastChannel.TheVariants as channel
-use Rattle.receiver.specs.declared.state.LastField.TheVariants as last_field_is
 
 pub decoded_as_known : map (λ (k : Known). (step on_channel_one k.pair).0) known_pairs ≡ map (λ (k : Known). answer (Some k.event)) known_pairs
 unfolding ones ones_in standard symbols char_of meaning control_code_of read_pair mode_of event_of text_event step
@@ -40,11 +38,11 @@ pub channel_left_as_known : map (λ (l : Leaves). (after fresh l.pairs).last_cha
 unfolding ones ones_in standard symbols char_of meaning control_code_of read_pair mode_of event_of text_event step
 channel_left_as_known = refl
 
-pub field_left_as_known : map (λ (l : Leaves). last_field (after fresh l.pairs)) known_to_leave ≡ map (λ (l : Leaves). last_field_is.Known l.field) known_to_leave
+pub field_left_as_known : map (λ (l : Leaves). last_field (after fresh l.pairs)) known_to_leave ≡ map (λ (l : Leaves). Some l.field) known_to_leave
 unfolding ones ones_in standard symbols char_of meaning control_code_of read_pair mode_of event_of text_event step
 field_left_as_known = refl
 
 -- text is for the channel that was named last: pop-on for channel two, then Hi
-pub text_on_channel_two : answers fresh (pair 0x1C 0x20 ∷ pair 0xC8 0xE9 ∷ []) ≡ answer (Some (event.NewMode channel_two PopOn)) ∷ answer (Some (event.Text (record { needs_backspace = false; char1 = Point 0x48; char2 = Point 0x69; channel = channel_two }))) ∷ []
+pub text_on_channel_two : answers fresh (pair 0x1C 0x20 ∷ pair 0xC8 0xE9 ∷ []) ≡ answer (Some (event.NewMode channel_two PopOn)) ∷ answer (Some (event.Text (record { needs_backspace = false; char1 = Some 0x48; char2 = Some 0x69; channel = channel_two }))) ∷ []
 unfolding ones ones_in standard symbols char_of meaning control_code_of read_pair mode_of event_of text_event step
 text_on_channel_two = refl

@@ -1,26 +1,19 @@
 -- The answer is unique: of `decode`, the outcome of the answer is injective, and the promise has the state as it is.
 -- Assumes nothing.
-use mathlib.Core.Path.{◌≡◌, refl, ap, sym}
-use Prim.Native.Nat.{ℕ}
-use native.Mathlib.Omega.{arith}
-use Rattle.code.proofs.OneAnswer.{Injective, clash}
+use mathlib.Core.Path.{◌≡◌, refl, ap, ap₂}
+use Rattle.std.specs.Prelude.{Option, Result}
+use Rattle.code.proofs.OneAnswer.{Injective, outcome_injective}
+use Rattle.code.specs.declared.read.InvalidParity.{InvalidParity}
+use Rattle.event.specs.declared.event.Cea608.{Cea608}
 use Rattle.receiver.specs.Heard.{heard_outcome}
 use Rattle.receiver.specs.Receiver.{decoded_outcome, Stepped}
-use Rattle.receiver.specs.declared.heard.Heard.TheVariants as heard
+use Rattle.receiver.specs.declared.state.Cea608State.{Cea608State}
 
 heard_injective : Injective heard_outcome
-heard_injective (heard.Event a) (heard.Event b) e = cc
-heard_injective (heard.Event a) heard.Nothing e = let z : ◌≡◌ {A = ℕ} 0 1 = cc in absurd (omega arith)
-heard_injective (heard.Event a) heard.InvalidParity e = absurd (clash e)
-heard_injective heard.Nothing (heard.Event b) e = let z : ◌≡◌ {A = ℕ} 0 1 = cc in absurd (omega arith)
-heard_injective heard.Nothing heard.Nothing e = refl
-heard_injective heard.Nothing heard.InvalidParity e = absurd (clash e)
-heard_injective heard.InvalidParity (heard.Event b) e = absurd (clash (sym e))
-heard_injective heard.InvalidParity heard.Nothing e = absurd (clash (sym e))
-heard_injective heard.InvalidParity heard.InvalidParity e = refl
+heard_injective = outcome_injective (λ e. 1) (λ d f e. refl)
 
 pub decoded_injective : Injective decoded_outcome
 decoded_injective r s e =
-    let a : r.answer ≡ s.answer = heard_injective r.answer s.answer (ap (λ (x : Stepped). x.0) e) in
-    let b : r.state ≡ s.state = ap (λ (x : Stepped). x.1) e in
-    λ i. record { answer = a i; state = b i }
+    let answers : r.1 ≡ s.1 = heard_injective r.1 s.1 (ap (λ (x : Stepped). x.0) e) in
+    let states : r.0 ≡ s.0 = ap (λ (x : Stepped). x.1) e in
+    ap₂ (λ (x : Cea608State) (y : Result (Option Cea608) InvalidParity). (x, y)) states answers

@@ -1,6 +1,7 @@
 -- What a receiver has reported is said and heard again, mark and all: its codes for any field, written and received, give
 -- the same event.
 -- Assumes nothing.
+use Rattle.std.specs.Prelude.{Option}
 use mathlib.Core.Bool.{Bool, true, false, cond}
 use mathlib.Core.Logic.{◌⊎◌, inl, inr}
 use Rattle.std.specs.Prelude.{None, Some}
@@ -24,11 +25,8 @@ use Rattle.code.specs.Parity.{is_odd, stripped}
 use Rattle.code.specs.Read.{control_code_of, is_command_pair, is_odd_pair, single}
 use Rattle.code.specs.declared.channel.Channel.{Channel}
 use Rattle.code.specs.declared.channel.Field.{Field}
-use Rattle.code.specs.declared.character.Character.{Character}
-use Rattle.code.specs.declared.character.Character.TheVariants as character
 use Rattle.code.specs.declared.code.Code.{Code}
 use Rattle.code.specs.declared.code.Code.TheVariants as code
-use Rattle.code.specs.declared.control.CodeField.TheVariants as field
 use Rattle.code.specs.declared.control.Command.{Command}
 use Rattle.code.specs.declared.control.Command.TheVariants as command
 use Rattle.code.specs.declared.control.Control.{Control}
@@ -102,16 +100,16 @@ preamble_again p ch e f inside is =
     (no_text_again (event.Preamble ch p) f (code.Control (control_code f ch (control.Preamble p))) code.Nul refl (rw (le-leb p.row 14 (omega arith)) refl))
 
 -- a symbol, by its character
-symbol_by : (s : Symbol) (ch : Channel) (e : Cea608) (f : Field) (k : Character) → symbol_char s ≡ k → symbol_text ch s k ≡ Some e → Again e f
+symbol_by : (s : Symbol) (ch : Channel) (e : Cea608) (f : Field) (k : Option ℕ) → symbol_char s ≡ k → symbol_text ch s k ≡ Some e → Again e f
 unfolding codes_of char_of
-symbol_by s ch e f character.Absent has is = none_given e f is
-symbol_by s ch e f (character.Point c) has is =
-    let x = code.Control (record { field = field.Absent; channel = ch; control = control.Symbol s }) in
+symbol_by s ch e f None has is = none_given e f is
+symbol_by s ch e f (Some c) has is =
+    let x = code.Control (record { field = None; channel = ch; control = control.Symbol s }) in
     is_given e f _ is (
       x,
       code.Nul,
-      ap (λ (o : Outcome Code). in_order o (answer code.Nul)) (a_symbol_is_its_characters_code field.Absent ch s c ch has),
-      (control_reported field.Absent f ch (control.Symbol s) _ (symbol_reads_back field.Absent ch s) (ap (symbol_text ch s) has) refl refl).0,
+      ap (λ (o : Outcome Code). in_order o (answer code.Nul)) (a_symbol_is_its_characters_code None ch s c ch has),
+      (control_reported None f ch (control.Symbol s) _ (symbol_reads_back None ch s) (ap (symbol_text ch s) has) refl refl).0,
     )
 
 control_again : (c : Control) (ch : Channel) (e : Cea608) (f : Field) → ((p : PreambleAddressCode) → c ≡ control.Preamble p → p.row < 15) → control_event ch c ≡ Some e → Again e f
@@ -124,17 +122,17 @@ control_again (control.Preamble p) ch e f row is = preamble_again p ch e f (row 
 control_again (control.Unknown a b) ch e f row is = none_given e f is
 
 -- a single code of a pair is a letter, or has no character
-letter_or_none : (b : ℕ) → ((l : Letter) × (single b ≡ code.Letter l)) ⊎ (char_of (single b) ≡ character.Absent)
+letter_or_none : (b : ℕ) → ((l : Letter) × (single b ≡ code.Letter l)) ⊎ (char_of (single b) ≡ None)
 unfolding char_of
 letter_or_none b = kind (eqb b 0) (leb 0x20 b)
   where
-    kind : (t u : Bool) → ((l : Letter) × (cond t code.Nul (cond u (code.Letter (letter_at (b - 0x20))) (code.Unknown b)) ≡ code.Letter l)) ⊎ (char_of (cond t code.Nul (cond u (code.Letter (letter_at (b - 0x20))) (code.Unknown b))) ≡ character.Absent)
+    kind : (t u : Bool) → ((l : Letter) × (cond t code.Nul (cond u (code.Letter (letter_at (b - 0x20))) (code.Unknown b)) ≡ code.Letter l)) ⊎ (char_of (cond t code.Nul (cond u (code.Letter (letter_at (b - 0x20))) (code.Unknown b))) ≡ None)
     kind true u = inr refl
     kind false true = inl (letter_at (b - 0x20), refl)
     kind false false = inr refl
 
 -- two letters, or one
-abbrev as_plain : Channel → Character → Character → Text
+abbrev as_plain : Channel → Option ℕ → Option ℕ → Text
 as_plain ch k l = record { needs_backspace = false; char1 = k; char2 = l; channel = ch }
 
 letters_again : (l m : Letter) (ch : Channel) (e : Cea608) (f : Field) → text_event ch (code.Letter l) (code.Letter m) ≡ Some e → Again e f
@@ -143,25 +141,25 @@ letters_again l m ch e f is =
     let one = a_letter_has_a_character l in
     let two = a_letter_has_a_character m in
     let told = ap₂ in_order (a_letter_is_its_characters_code l one.0 ch one.1) (a_letter_is_its_characters_code m two.0 ch two.1) in
-    let t = as_plain ch (character.Point one.0) (character.Point two.0) in
+    let t = as_plain ch (Some one.0) (Some two.0) in
     is_given e f (event.Text t) (sym (ap₂ (text_of ch) one.1 two.1) ∙ is)
     (code.Letter l, code.Letter m, told, text_is_heard t f (code.Letter l) (code.Letter m) told (two_letters l m))
 
-first_again : (l : Letter) (y : Code) (ch : Channel) (e : Cea608) (f : Field) → char_of y ≡ character.Absent → text_event ch (code.Letter l) y ≡ Some e → Again e f
+first_again : (l : Letter) (y : Code) (ch : Channel) (e : Cea608) (f : Field) → char_of y ≡ None → text_event ch (code.Letter l) y ≡ Some e → Again e f
 unfolding text_event codes_of
 first_again l y ch e f no_second is =
     let one = a_letter_has_a_character l in
     let told = ap (λ (o : Outcome Code). in_order o (answer code.Nul)) (a_letter_is_its_characters_code l one.0 ch one.1) in
-    let t = as_plain ch (character.Point one.0) character.Absent in
+    let t = as_plain ch (Some one.0) None in
     is_given e f (event.Text t) (sym (ap₂ (text_of ch) one.1 no_second) ∙ is)
     (code.Letter l, code.Nul, told, text_is_heard t f (code.Letter l) code.Nul told (only_a_first l))
 
-second_again : (x : Code) (m : Letter) (ch : Channel) (e : Cea608) (f : Field) → char_of x ≡ character.Absent → text_event ch x (code.Letter m) ≡ Some e → Again e f
+second_again : (x : Code) (m : Letter) (ch : Channel) (e : Cea608) (f : Field) → char_of x ≡ None → text_event ch x (code.Letter m) ≡ Some e → Again e f
 unfolding text_event codes_of
 second_again x m ch e f no_first is =
     let two = a_letter_has_a_character m in
     let told = ap (in_order (answer code.Nul)) (a_letter_is_its_characters_code m two.0 ch two.1) in
-    let t = as_plain ch character.Absent (character.Point two.0) in
+    let t = as_plain ch None (Some two.0) in
     is_given e f (event.Text t) (sym (ap₂ (text_of ch) no_first two.1) ∙ is)
     (code.Nul, code.Letter m, told, text_is_heard t f code.Nul (code.Letter m) told (only_a_second m))
 
@@ -169,7 +167,7 @@ text_again : (a b : ℕ) (ch : Channel) (e : Cea608) (f : Field) → text_event 
 unfolding text_event
 text_again a b ch e f is = by_letters (letter_or_none a) (letter_or_none b)
   where
-    by_letters : ((l : Letter) × (single a ≡ code.Letter l)) ⊎ (char_of (single a) ≡ character.Absent) → ((m : Letter) × (single b ≡ code.Letter m)) ⊎ (char_of (single b) ≡ character.Absent) → Again e f
+    by_letters : ((l : Letter) × (single a ≡ code.Letter l)) ⊎ (char_of (single a) ≡ None) → ((m : Letter) × (single b ≡ code.Letter m)) ⊎ (char_of (single b) ≡ None) → Again e f
     by_letters (inl l) (inl m) = letters_again l.0 m.0 ch e f (sym (ap₂ (text_event ch) l.1 m.1) ∙ is)
     by_letters (inl l) (inr empty) = first_again l.0 (single b) ch e f empty (sym (ap (λ (x : Code). text_event ch x (single b)) l.1) ∙ is)
     by_letters (inr empty) (inl m) = second_again (single a) m.0 ch e f empty (sym (ap (text_event ch (single a)) m.1) ∙ is)

@@ -1,6 +1,7 @@
 -- What one pair does: a refusal changes nothing, text is never skipped, and a command that has no event still sets channel
 -- and field.
 -- Assumes nothing.
+use Rattle.std.specs.Prelude.{Option, Some}
 use mathlib.Core.Bool.{Bool, true, false, cond}
 use mathlib.Core.List.{[], ◌∷◌, map}
 use Rattle.std.specs.Prelude.{None}
@@ -14,11 +15,8 @@ use Rattle.code.specs.Parity.{is_odd, stripped}
 use Rattle.code.specs.Read.{codes_of_bytes, is_command, is_odd_pair, read_pair, single}
 use Rattle.code.specs.declared.channel.Channel.{Channel}
 use Rattle.code.specs.declared.channel.Field.{Field}
-use Rattle.code.specs.declared.character.Character.TheVariants.{Absent}
 use Rattle.code.specs.declared.code.Code.{Code}
 use Rattle.code.specs.declared.code.Code.TheVariants as code
-use Rattle.code.specs.declared.control.CodeField.{CodeField}
-use Rattle.code.specs.declared.control.CodeField.TheVariants as field
 use Rattle.code.specs.declared.control.Command.TheVariants.{AlarmOff, AlarmOn, FlashOn, TextRestart, ResumeTextDisplay}
 use Rattle.code.specs.declared.control.Control.TheVariants as control
 use Rattle.code.specs.declared.control.ControlCode.{ControlCode}
@@ -29,8 +27,6 @@ use Rattle.receiver.specs.Reading.{once}
 use Rattle.receiver.specs.Receiver.{acts, after_reading, field_after, forgotten, heard_codes, heard_command, heard_text, is_last, last_field, step, Stepped}
 use Rattle.receiver.specs.declared.state.Cea608State.{Cea608State}
 use Rattle.receiver.specs.declared.state.LastChannel.TheVariants as channel
-use Rattle.receiver.specs.declared.state.LastField.TheVariants as last_field_is
-use Rattle.receiver.specs.declared.state.LastPair.TheVariants as last
 use Rattle.event.specs.Mode.{mode_of}
 
 -- a pair that is read as a command
@@ -122,16 +118,16 @@ commands_without_event ch = refl
 pub unknown_without_event : (ch : Channel) (a b : ℕ) → control_event ch (control.Unknown a b) ≡ None
 unknown_without_event ch a b = refl
 
-pub symbol_without_event : (ch : Channel) (s : Symbol) → symbol_char s ≡ Absent → control_event ch (control.Symbol s) ≡ None
+pub symbol_without_event : (ch : Channel) (s : Symbol) → symbol_char s ≡ None → control_event ch (control.Symbol s) ≡ None
 symbol_without_event ch s h = rw h
 
 -- what a command leaves: it is the last pair, its channel is the last channel, and the last field is its own, or as it was
 -- where it names none
 pub record Sets (p : Pair) (c : ControlCode) (before after : Cea608State) : Type 0 where
-  pub pair : after.last_data ≡ last.Was p
+  pub pair : after.last_data ≡ Some p
   pub channel : after.last_channel ≡ channel.Known c.channel
-  pub own_field : (f : Field) → c.field ≡ field.Of f → last_field after ≡ last_field_is.Known f
-  pub no_field : c.field ≡ field.Absent → last_field after ≡ last_field before
+  pub own_field : (f : Field) → c.field ≡ Some f → last_field after ≡ Some f
+  pub no_field : c.field ≡ None → last_field after ≡ last_field before
 
 -- with an event or without one
 pub a_command_sets : (s : Cea608State) (p : Pair) (c : ControlCode) → IsCommand p c → is_last p s.last_data ≡ false → Sets p c s (step s p).1
@@ -140,8 +136,8 @@ a_command_sets s p c h other =
     (record {
       pair = refl;
       channel = refl;
-      own_field = λ f own. ap (λ (g : CodeField). field_after g (last_field s)) own;
-      no_field = λ none_named. ap (λ (g : CodeField). field_after g (last_field s)) none_named;
+      own_field = λ f own. ap (λ (g : Option Field). field_after g (last_field s)) own;
+      no_field = λ none_named. ap (λ (g : Option Field). field_after g (last_field s)) none_named;
     })
 
 pub silent_command_lem : (s : Cea608State) (p : Pair) (c : ControlCode) → IsCommand p c → is_last p s.last_data ≡ false → event_of c ≡ None → (step s p).0 ≡ answer None

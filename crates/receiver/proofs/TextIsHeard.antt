@@ -1,5 +1,6 @@
 -- Text that shares one pair is heard, with the mark that its first code has; any text is heard character by character.
 -- Assumes nothing.
+use Rattle.std.specs.Prelude.{None}
 use mathlib.Core.Bool.{true≢false}
 use Rattle.std.specs.Prelude.{Option, Some}
 use mathlib.Core.Path.{◌≡◌, refl, ap, ap₂, sym, subst, ◌∙◌}
@@ -13,11 +14,8 @@ use Rattle.code.specs.Outcome.{Outcome, answer, refused}
 use Rattle.code.specs.ReadBack.{TextReadsBack}
 use Rattle.code.specs.declared.channel.Channel.{Channel}
 use Rattle.code.specs.declared.channel.Field.{Field}
-use Rattle.code.specs.declared.character.Character.{Character}
-use Rattle.code.specs.declared.character.Character.TheVariants as character
 use Rattle.code.specs.declared.code.Code.{Code}
 use Rattle.code.specs.declared.code.Code.TheVariants as code
-use Rattle.code.specs.declared.control.CodeField.TheVariants as field
 use Rattle.code.specs.declared.control.Control.TheVariants as control
 use Rattle.code.specs.declared.control.ControlCode.{ControlCode}
 use Rattle.code.specs.declared.letter.Letter.{Letter}
@@ -35,13 +33,12 @@ use Rattle.receiver.specs.SaidIsHeard.{CharacterByCharacterLaw, HeardAlone, InOn
 use Rattle.receiver.specs.declared.state.Cea608State.{Cea608State}
 use Rattle.receiver.specs.declared.state.LastChannel.{LastChannel}
 use Rattle.receiver.specs.declared.state.LastChannel.TheVariants as channel
-use Rattle.receiver.specs.declared.state.LastPair.TheVariants as last
 
 -- the code of a character, or NUL for none, has that character
-has_its_character : (k : Character) (ch : Channel) (x : Code) → character_code k ch ≡ answer x → char_of x ≡ k
+has_its_character : (k : Option ℕ) (ch : Channel) (x : Code) → character_code k ch ≡ answer x → char_of x ≡ k
 unfolding char_of
-has_its_character (character.Point c) ch x e = a_characters_code_has_it c ch x e
-has_its_character character.Absent ch x e = ap char_of (sym (same e))
+has_its_character (Some c) ch x e = a_characters_code_has_it c ch x e
+has_its_character None ch x e = ap char_of (sym (same e))
 
 -- the two codes of a text are those of its characters
 both_codes : (o p : Outcome Code) (x y : Code) → in_order o p ≡ codes x y → (o ≡ answer x) × (p ≡ answer y)
@@ -52,10 +49,10 @@ both_codes (refused n) (answer w) x y e = let z : ◌≡◌ {A = ℕ} 0 1 = cc i
 both_codes (refused n) (refused m) x y e = let z : ◌≡◌ {A = ℕ} 0 1 = cc in absurd (omega arith)
 
 -- a text with a character, from its characters
-made : (ch : Channel) (k l : Character) → (k ≡ character.Absent → l ≡ character.Absent → ⊥) → text_of ch k l ≡ Some (plain_text ch k l)
-made ch (character.Point c) l some_character = refl
-made ch character.Absent (character.Point d) some_character = refl
-made ch character.Absent character.Absent some_character = absurd (some_character refl refl)
+made : (ch : Channel) (k l : Option ℕ) → (k ≡ None → l ≡ None → ⊥) → text_of ch k l ≡ Some (plain_text ch k l)
+made ch (Some c) l some_character = refl
+made ch None (Some d) some_character = refl
+made ch None None some_character = absurd (some_character refl refl)
 
 -- single codes that are read back are reported as text
 plain_reported : (t : Text) (f : Field) (x y : Code) → TextReadsBack x y → ((s : Cea608State) (p : Pair) → heard_codes s p x y ≡ heard_text s p x y) → text_event t.channel x y ≡ Some (event.Text t) → Reported x y f (event.Text t)
@@ -67,8 +64,8 @@ plain_reported t f x y back as_text_lem is = record {
   text_decoded = λ is_text_lem s on.
       ap (after_reading s back.pair) back.read
       ∙ as_text_lem s back.pair
-      ∙ ap {B = Stepped} (λ (l : LastChannel). (answer (text_for l x y), state (last.Was back.pair) l (last_field s))) on
-      ∙ ap {B = Stepped} (λ (o : Option Cea608). (answer o, state (last.Was back.pair) (channel.Known t.channel) (last_field s))) is;
+      ∙ ap {B = Stepped} (λ (l : LastChannel). (answer (text_for l x y), state (Some back.pair) l (last_field s))) on
+      ∙ ap {B = Stepped} (λ (o : Option Cea608). (answer o, state (Some back.pair) (channel.Known t.channel) (last_field s))) is;
 }
 
 module _ (t : Text) (x y : Code) (first : character_code t.char1 t.channel ≡ answer x) (second : character_code t.char2 t.channel ≡ answer y) where
@@ -78,33 +75,33 @@ module _ (t : Text) (x y : Code) (first : character_code t.char1 t.channel ≡ a
   second_is : char_of y ≡ t.char2
   second_is = has_its_character t.char2 t.channel y second
 
-  pub its_text : (char_of x ≡ character.Absent → char_of y ≡ character.Absent → ⊥) → text_event t.channel x y ≡ Some (plain_text t.channel t.char1 t.char2)
+  pub its_text : (char_of x ≡ None → char_of y ≡ None → ⊥) → text_event t.channel x y ≡ Some (plain_text t.channel t.char1 t.char2)
   unfolding text_event
   its_text some_character =
       ap₂ (text_of t.channel) first_is second_is
       ∙ made t.channel t.char1 t.char2 (λ no_first no_second. some_character (first_is ∙ no_first) (second_is ∙ no_second))
 
-has_one : (l : Letter) → char_of (code.Letter l) ≡ character.Absent → ⊥
+has_one : (l : Letter) → char_of (code.Letter l) ≡ None → ⊥
 has_one l e = absent_is_no_point (sym e ∙ (a_letter_has_a_character l).1)
 
 -- a symbol alone
 abbrev bare_symbol : Channel → Symbol → ControlCode
-bare_symbol ch s = record { field = field.Absent; channel = ch; control = control.Symbol s }
+bare_symbol ch s = record { field = None; channel = ch; control = control.Symbol s }
 
-abbrev as_text : ControlCode → Character → Character → Channel → Cea608
+abbrev as_text : ControlCode → Option ℕ → Option ℕ → Channel → Cea608
 as_text c k l ch = event.Text (record { needs_backspace = needs_backspace (code.Control c); char1 = k; char2 = l; channel = ch })
 
-symbol_heard : (f : Field) (ch : Channel) (k l : Character) (c : ControlCode) → character_code k ch ≡ answer (code.Control c) → character_code l ch ≡ answer code.Nul → Reported (code.Control c) code.Nul f (as_text c k l ch)
+symbol_heard : (f : Field) (ch : Channel) (k l : Option ℕ) (c : ControlCode) → character_code k ch ≡ answer (code.Control c) → character_code l ch ≡ answer code.Nul → Reported (code.Control c) code.Nul f (as_text c k l ch)
 unfolding char_of
-symbol_heard f ch (character.Point p) l c first second =
+symbol_heard f ch (Some p) l c first second =
     let found = a_characters_control_is_a_symbol p ch c first in
     let s = found.0 in
-    let has : symbol_char s ≡ character.Point p = ap char_of (sym (ap code.Control found.1)) ∙ a_characters_code_has_it p ch (code.Control c) first in
-    let none_left : l ≡ character.Absent = sym (has_its_character l ch code.Nul second) in
-    subst (λ (d : ControlCode). Reported (code.Control d) code.Nul f (as_text d (character.Point p) l ch)) (sym found.1)
-    (subst (λ (m : Character). Reported (code.Control (bare_symbol ch s)) code.Nul f (as_text (bare_symbol ch s) (character.Point p) m ch)) (sym none_left)
-    (control_reported field.Absent f ch (control.Symbol s) _ (symbol_reads_back field.Absent ch s) (ap (heard.symbol_text ch s) has) refl refl).0)
-symbol_heard f ch character.Absent l c first second = let z : ◌≡◌ {A = ℕ} 0 1 = cc in absurd (omega arith)
+    let has : symbol_char s ≡ Some p = ap char_of (sym (ap code.Control found.1)) ∙ a_characters_code_has_it p ch (code.Control c) first in
+    let none_left : l ≡ None = sym (has_its_character l ch code.Nul second) in
+    subst (λ (d : ControlCode). Reported (code.Control d) code.Nul f (as_text d (Some p) l ch)) (sym found.1)
+    (subst (λ (m : Option ℕ). Reported (code.Control (bare_symbol ch s)) code.Nul f (as_text (bare_symbol ch s) (Some p) m ch)) (sym none_left)
+    (control_reported None f ch (control.Symbol s) _ (symbol_reads_back None ch s) (ap (heard.symbol_text ch s) has) refl refl).0)
+symbol_heard f ch None l c first second = let z : ◌≡◌ {A = ℕ} 0 1 = cc in absurd (omega arith)
 
 shared : (t : Text) (f : Field) (x y : Code) → character_code t.char1 t.channel ≡ answer x → character_code t.char2 t.channel ≡ answer y → InOnePair x y → Reported x y f (event.Text (marked t x))
 shared t f x y first second (two_letters l m) =
@@ -125,14 +122,14 @@ text_is_heard t f x y told one =
     shared t f x y both.0 both.1 one
 
 -- a character's code alone is a letter or a symbol
-alone_in_one : (c : ℕ) (x : Code) → char_of x ≡ character.Point c → InOnePair x code.Nul
+alone_in_one : (c : ℕ) (x : Code) → char_of x ≡ Some c → InOnePair x code.Nul
 unfolding char_of
 alone_in_one c code.Nul has = absurd (absent_is_no_point has)
 alone_in_one c (code.Control s) has = only_a_symbol s
 alone_in_one c (code.Letter l) has = only_a_first l
 alone_in_one c (code.Unknown b) has = absurd (absent_is_no_point has)
 
-heard_alone : (t : Text) (f : Field) (x : Code) (k : Character) → character_code k t.channel ≡ answer x → HeardAlone t f x k
+heard_alone : (t : Text) (f : Field) (x : Code) (k : Option ℕ) → character_code k t.channel ≡ answer x → HeardAlone t f x k
 unfolding codes_of
 heard_alone t f x k told c is =
     text_is_heard (only t x k) f x code.Nul (ap (λ (o : Outcome Code). in_order o (answer code.Nul)) told)

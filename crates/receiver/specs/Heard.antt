@@ -1,13 +1,13 @@
 -- The events that codes encode. What a command does is from 47 CFR 79.101 (f) and (h); that alarms, flash, the text
 -- commands, `Unknown` and a symbol without a character give none is from 01.
+use Rattle.std.specs.Prelude.{ℕ}
 use Rattle.std.specs.Prelude.{false}
-use Rattle.std.specs.Prelude.{Option, None, Some}
+use Rattle.std.specs.Prelude.{Option, None, Some, Result}
 use Rattle.code.specs.Code.{char_of, control_needs_backspace, symbol_char}
 use Rattle.code.specs.Control.{tab_number}
-use Rattle.code.specs.Outcome.{Outcome, answer, refused}
+use Rattle.code.specs.Outcome.{Outcome, outcome}
+use Rattle.code.specs.declared.read.InvalidParity.{InvalidParity}
 use Rattle.code.specs.declared.channel.Channel.{Channel}
-use Rattle.code.specs.declared.character.Character.{Character}
-use Rattle.code.specs.declared.character.Character.TheVariants as character
 use Rattle.code.specs.declared.code.Code.{Code}
 use Rattle.code.specs.declared.control.Command.{Command}
 use Rattle.code.specs.declared.control.Command.TheVariants as command
@@ -19,8 +19,6 @@ use Rattle.event.specs.declared.event.Cea608.{Cea608}
 use Rattle.event.specs.declared.event.Cea608.TheVariants as event
 use Rattle.event.specs.Mode.{mode_of}
 use Rattle.event.specs.declared.mode.Mode.{Mode}
-use Rattle.receiver.specs.declared.heard.Heard.{Heard}
-use Rattle.receiver.specs.declared.heard.Heard.TheVariants as heard
 
 -- six commands have an event of their own
 abbrev pub own_event : Channel → Command → Option Cea608
@@ -54,15 +52,15 @@ abbrev pub command_event : Channel → Command → Option Cea608
 command_event ch c = or_new_mode ch (own_event ch c) (mode_of c)
 
 -- a symbol's character, which takes the place of the one before it where the symbol is an extended one
-abbrev pub symbol_text : Channel → Symbol → Character → Option Cea608
-symbol_text ch s character.Absent = None
-symbol_text ch s (character.Point c) =
+abbrev pub symbol_text : Channel → Symbol → Option ℕ → Option Cea608
+symbol_text ch s None = None
+symbol_text ch s (Some c) =
     Some
     (event.Text
     (record {
       needs_backspace = control_needs_backspace (control.Symbol s);
-      char1 = character.Point c;
-      char2 = character.Absent;
+      char1 = Some c;
+      char2 = None;
       channel = ch;
     }))
 
@@ -81,18 +79,16 @@ unfoldable pub event_of : ControlCode → Option Cea608
 event_of c = control_event c.channel c.control
 
 -- one or two characters, or nothing where there is none
-abbrev pub plain_text : Channel → Character → Character → Cea608
+abbrev pub plain_text : Channel → Option ℕ → Option ℕ → Cea608
 plain_text ch one two = event.Text (record { needs_backspace = false; char1 = one; char2 = two; channel = ch })
 
-abbrev pub text_of : Channel → Character → Character → Option Cea608
-text_of ch (character.Point c) two = Some (plain_text ch (character.Point c) two)
-text_of ch character.Absent (character.Point d) = Some (plain_text ch character.Absent (character.Point d))
-text_of ch character.Absent character.Absent = None
+abbrev pub text_of : Channel → Option ℕ → Option ℕ → Option Cea608
+text_of ch (Some c) two = Some (plain_text ch (Some c) two)
+text_of ch None (Some d) = Some (plain_text ch None (Some d))
+text_of ch None None = None
 
 unfoldable pub text_event : Channel → Code → Code → Option Cea608
 text_event ch x y = text_of ch (char_of x) (char_of y)
 
-abbrev pub heard_outcome : Heard → Outcome (Option Cea608)
-heard_outcome (heard.Event e) = answer (Some e)
-heard_outcome heard.Nothing = answer None
-heard_outcome heard.InvalidParity = refused 1
+abbrev pub heard_outcome : Result (Option Cea608) InvalidParity → Outcome (Option Cea608)
+heard_outcome r = outcome (λ e. 1) r

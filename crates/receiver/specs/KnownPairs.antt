@@ -1,14 +1,13 @@
 -- What else is known of pairs, beside those that `KnownPairs` of `event` has with their events: the commands and the symbol
 -- that have no event, the channel and the field that pairs leave, and the channel that text is for. From the tables of
 -- 47 CFR 79.101, and from 01.
+use Rattle.std.specs.Prelude.{None, Option, Some}
 use Rattle.std.specs.Prelude.{ℕ, List, [], ◌∷◌}
 use Rattle.code.specs.Channel.{channel_one, channel_two, field_one, field_two}
 use Rattle.code.specs.Column.{column_at}
 use Rattle.code.specs.Pair.{pair}
 use Rattle.code.specs.declared.channel.Channel.{Channel}
 use Rattle.code.specs.declared.channel.Field.{Field}
-use Rattle.code.specs.declared.control.CodeField.{CodeField}
-use Rattle.code.specs.declared.control.CodeField.TheVariants as field
 use Rattle.code.specs.declared.control.Command.{Command}
 use Rattle.code.specs.declared.control.Command.TheVariants.{AlarmOff, AlarmOn, FlashOn, TextRestart, ResumeTextDisplay}
 use Rattle.code.specs.declared.control.Control.{Control}
@@ -19,30 +18,28 @@ use Rattle.code.specs.declared.symbol.SymbolRow.TheVariants.{Special}
 use Rattle.receiver.specs.Receiver.{state}
 use Rattle.receiver.specs.declared.state.Cea608State.{Cea608State}
 use Rattle.receiver.specs.declared.state.LastChannel.TheVariants as channel
-use Rattle.receiver.specs.declared.state.LastField.TheVariants as last_field_is
-use Rattle.receiver.specs.declared.state.LastPair.TheVariants as last
 
 -- a receiver to which channel one was named
 abbrev pub on_channel_one : Cea608State
-on_channel_one = state last.Absent (channel.Known channel_one) last_field_is.Absent
+on_channel_one = state None (channel.Known channel_one) None
 
 -- pairs that have no event, each with its control code
 pub record Silent : Type 0 where
   pub pair : Pair
   pub code : ControlCode
 
-abbrev silent : ℕ → ℕ → CodeField → Control → Silent
+abbrev silent : ℕ → ℕ → Option Field → Control → Silent
 silent a b f c = record { pair = pair a b; code = record { field = f; channel = channel_one; control = c } }
 
 abbrev silent_command : ℕ → Command → Silent
-silent_command b c = silent 0x94 b (field.Of field_one) (control.Command c)
+silent_command b c = silent 0x94 b (Some field_one) (control.Command c)
 
 -- alarm off and on, flash, text restart, resume text display; the transparent space, at 39 of the special characters
 abbrev pub silent_pairs : List Silent
 silent_pairs =
     silent_command 0xA2 AlarmOff ∷ silent_command 0x23 AlarmOn ∷ silent_command 0xA8 FlashOn ∷ silent_command 0x2A TextRestart
     ∷ silent_command 0xAB ResumeTextDisplay
-    ∷ silent 0x91 0xB9 field.Absent (control.Symbol (record { row = Special; column = column_at 9 })) ∷ []
+    ∷ silent 0x91 0xB9 None (control.Symbol (record { row = Special; column = column_at 9 })) ∷ []
 
 -- pairs, and the channel and the field that a fresh receiver has after them
 pub record Leaves : Type 0 where

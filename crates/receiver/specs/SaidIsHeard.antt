@@ -2,6 +2,7 @@
 -- over the definitions of `IntoCode`, of writing and of the receiver. `SaidIsHeardLaw` is of every event that is no text,
 -- `TextIsHeardLaw` and `CharacterByCharacterLaw` of text, and `ReportedAgainLaw` of whatever a receiver has reported.
 -- proofs/ has a file for each: SaidIsHeard, TextIsHeard, ReportedAgain.
+use Rattle.std.specs.Prelude.{None, Option}
 use Rattle.std.specs.Prelude.{ℕ, true, false, ◌≡◌}
 use Rattle.std.specs.Prelude.{Some}
 use Rattle.code.specs.Code.{needs_backspace}
@@ -9,12 +10,8 @@ use Rattle.code.specs.Outcome.{answer}
 use Rattle.code.specs.Read.{is_command_pair}
 use Rattle.code.specs.Write.{write_two}
 use Rattle.code.specs.declared.channel.Field.{Field}
-use Rattle.code.specs.declared.character.Character.{Character}
-use Rattle.code.specs.declared.character.Character.TheVariants as character
 use Rattle.code.specs.declared.code.Code.{Code}
 use Rattle.code.specs.declared.code.Code.TheVariants as code
-use Rattle.code.specs.declared.control.CodeField.{CodeField}
-use Rattle.code.specs.declared.control.CodeField.TheVariants as field
 use Rattle.code.specs.declared.control.ControlCode.{ControlCode}
 use Rattle.code.specs.declared.letter.Letter.{Letter}
 use Rattle.code.specs.declared.pair.Pair.{Pair}
@@ -26,28 +23,27 @@ use Rattle.event.specs.declared.event.Text.{Text}
 use Rattle.receiver.specs.Receiver.{Stepped, field_after, is_last, last_field, state, step}
 use Rattle.receiver.specs.declared.state.Cea608State.{Cea608State}
 use Rattle.receiver.specs.declared.state.LastChannel.TheVariants as channel
-use Rattle.receiver.specs.declared.state.LastPair.TheVariants as last
 
 -- the field that an event's codes name: those of 14 20 to 14 2F, or 15 20 to 15 2F, name it; a tab, a preamble, a mid-row
 -- code and text do not
-abbrev pub field_named : Cea608 → Field → CodeField
-field_named (event.Text t) f = field.Absent
-field_named (event.NewMode ch m) f = field.Of f
-field_named (event.EraseDisplay ch) f = field.Of f
-field_named (event.EraseNonDisplay ch) f = field.Of f
-field_named (event.CarriageReturn ch) f = field.Of f
-field_named (event.Backspace ch) f = field.Of f
-field_named (event.EndOfCaption ch) f = field.Of f
-field_named (event.TabOffset ch n) f = field.Absent
-field_named (event.DeleteToEndOfRow ch) f = field.Of f
-field_named (event.Preamble ch p) f = field.Absent
-field_named (event.MidRowChange ch m) f = field.Absent
+abbrev pub field_named : Cea608 → Field → Option Field
+field_named (event.Text t) f = None
+field_named (event.NewMode ch m) f = Some f
+field_named (event.EraseDisplay ch) f = Some f
+field_named (event.EraseNonDisplay ch) f = Some f
+field_named (event.CarriageReturn ch) f = Some f
+field_named (event.Backspace ch) f = Some f
+field_named (event.EndOfCaption ch) f = Some f
+field_named (event.TabOffset ch n) f = None
+field_named (event.DeleteToEndOfRow ch) f = Some f
+field_named (event.Preamble ch p) f = None
+field_named (event.MidRowChange ch m) f = None
 
 -- the event is reported, its pair is the last one, its channel is the last channel, and the field is the one that it names,
 -- or stays
 abbrev pub reports : Cea608State → Pair → Field → Cea608 → Stepped
 reports s p f e =
-    (answer (Some e), state (last.Was p) (channel.Known (channel_of_event e)) (field_after (field_named e f) (last_field s)))
+    (answer (Some e), state (Some p) (channel.Known (channel_of_event e)) (field_after (field_named e f) (last_field s)))
 
 -- two codes are written as one pair. Every receiver reports it as that event: a command unless it takes it for a repeat of
 -- the pair before it, text where the event's channel is the last one.
@@ -82,11 +78,11 @@ TextIsHeardLaw =
 
 -- Any text, also one that needs two pairs: each of its characters, sent as a pair of its own, is heard as a text of that
 -- character alone.
-abbrev pub only : Text → Code → Character → Text
-only t x k = record { needs_backspace = needs_backspace x; char1 = k; char2 = character.Absent; channel = t.channel }
+abbrev pub only : Text → Code → Option ℕ → Text
+only t x k = record { needs_backspace = needs_backspace x; char1 = k; char2 = None; channel = t.channel }
 
-abbrev pub HeardAlone : Text → Field → Code → Character → Type 0
-HeardAlone t f x k = (c : ℕ) → k ≡ character.Point c → Reported x code.Nul f (event.Text (only t x k))
+abbrev pub HeardAlone : Text → Field → Code → Option ℕ → Type 0
+HeardAlone t f x k = (c : ℕ) → k ≡ Some c → Reported x code.Nul f (event.Text (only t x k))
 
 abbrev pub CharacterByCharacterLaw : Type 0
 CharacterByCharacterLaw =

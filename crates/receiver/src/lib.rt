@@ -6,5 +6,4 @@
 pub mod heard;
 pub mod state;
 
-pub use heard::Heard;
-pub use state::{Cea608State, Decoded, LastChannel, LastField, LastPair};
+pub use state::{Cea608State, LastChannel};
