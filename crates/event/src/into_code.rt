@@ -1,6 +1,6 @@
 // An event turned into the codes that encode it.
 ghost use Rattle.std.specs.Prelude.{◌≡◌};
-ghost use Rattle.event.specs.IntoCode.{codes_of, into_code_outcome, text_codes, tab_codes, preamble_codes, alone, command_alone};
+ghost use Rattle.event.specs.IntoCode.{codes, codes_of, into_code_outcome, text_codes, preamble_codes, alone, command_alone};
 ghost use Rattle.event.specs.IntoCode.{character_code};
 ghost use Rattle.code.specs.Code.{from_char_outcome};
 ghost use Rattle.event.specs.declared.into_code.IntoCodeError.TheVariants.{NoSuchTab as no_such_tab};
@@ -35,87 +35,61 @@ impl Cea608 {
     pub fn into_code(self, field: Field) -> Result<(Code, Code), IntoCodeError>
         ensures { into_code_outcome result ≡ codes_of self field }
     {
+        let to = Address {
+            field,
+            channel: self.channel(),
+        };
         match self {
             Cea608::Text(text) => text.into_code(),
-            Cea608::NewMode(channel, mode) => command_alone(field, channel, mode.command()),
-            Cea608::EraseDisplay(channel) => command_alone(
-                field,
-                channel,
-                Command::EraseDisplayedMemory,
-            ),
-            Cea608::EraseNonDisplay(channel) => command_alone(
-                field,
-                channel,
-                Command::EraseNonDisplayedMemory,
-            ),
-            Cea608::CarriageReturn(channel) => command_alone(
-                field,
-                channel,
-                Command::CarriageReturn,
-            ),
-            Cea608::Backspace(channel) => command_alone(field, channel, Command::Backspace),
-            Cea608::EndOfCaption(channel) => command_alone(field, channel, Command::EndOfCaption),
-            Cea608::TabOffset(channel, count) => tab_alone(field, channel, count),
-            Cea608::DeleteToEndOfRow(channel) => command_alone(
-                field,
-                channel,
-                Command::DeleteToEndOfRow,
-            ),
-            Cea608::Preamble(channel, preamble) => preamble_alone(field, channel, preamble),
-            Cea608::MidRowChange(channel, mid_row) => control_alone(
-                field,
-                channel,
-                Control::MidRow(mid_row),
-            ),
+            Cea608::NewMode(_, mode) => Ok(to.command(mode.command())),
+            Cea608::EraseDisplay(_) => Ok(to.command(Command::EraseDisplayedMemory)),
+            Cea608::EraseNonDisplay(_) => Ok(to.command(Command::EraseNonDisplayedMemory)),
+            Cea608::CarriageReturn(_) => Ok(to.command(Command::CarriageReturn)),
+            Cea608::Backspace(_) => Ok(to.command(Command::Backspace)),
+            Cea608::EndOfCaption(_) => Ok(to.command(Command::EndOfCaption)),
+            Cea608::TabOffset(_, count) => Ok(to.control(Control::tab_offset(count)?)),
+            Cea608::DeleteToEndOfRow(_) => Ok(to.command(Command::DeleteToEndOfRow)),
+            Cea608::Preamble(_, preamble) => to.preamble(preamble),
+            Cea608::MidRowChange(_, mid_row) => Ok(to.control(Control::MidRow(mid_row))),
         }
     }
 }
 
-// A control code and NUL.
-pub(crate) fn control_alone(
-    field: Field,
-    channel: Channel,
-    control: Control,
-) -> Result<(Code, Code), IntoCodeError>
-    ensures { into_code_outcome result ≡ alone field channel control }
-{
-    let code = ControlCode::new(field, channel, control);
-    Ok((Code::Control(code), Code::Nul))
+// Where a control code goes.
+#[derive(Clone, Copy)]
+pub(crate) struct Address {
+    pub field: Field,
+    pub channel: Channel,
 }
 
-pub(crate) fn command_alone(
-    field: Field,
-    channel: Channel,
-    command: Command,
-) -> Result<(Code, Code), IntoCodeError>
-    ensures { into_code_outcome result ≡ command_alone field channel command }
-{
-    control_alone(field, channel, Control::Command(command))
-}
-
-// A tab of 1, 2 or 3 columns.
-pub(crate) fn tab_alone(
-    field: Field,
-    channel: Channel,
-    count: u8,
-) -> Result<(Code, Code), IntoCodeError>
-    ensures { into_code_outcome result ≡ tab_codes field channel count }
-{
-    control_alone(field, channel, Control::tab_offset(count)?)
-}
-
-// A preamble of a row of 0 to 14.
-pub(crate) fn preamble_alone(
-    field: Field,
-    channel: Channel,
-    preamble: PreambleAddressCode,
-) -> Result<(Code, Code), IntoCodeError>
-    ensures { into_code_outcome result ≡ preamble_codes field channel preamble }
-{
-    if 15 <= preamble.row {
-        return Err(IntoCodeError::NoSuchRow);
+impl Address {
+    // A control code and NUL.
+    pub(crate) fn control(self, control: Control) -> (Code, Code)
+        ensures { codes result.0 result.1 ≡ alone self.field self.channel control }
+    {
+        let code = ControlCode::new(self.field, self.channel, control);
+        (Code::Control(code), Code::Nul)
     }
-    control_alone(field, channel, Control::Preamble(preamble))
+
+    // A command and NUL.
+    pub(crate) fn command(self, command: Command) -> (Code, Code)
+        ensures { codes result.0 result.1 ≡ command_alone self.field self.channel command }
+    {
+        self.control(Control::Command(command))
+    }
+
+    // A preamble of a row of 0 to 14, and NUL.
+    pub(crate) fn preamble(
+        self,
+        preamble: PreambleAddressCode,
+    ) -> Result<(Code, Code), IntoCodeError>
+        ensures { into_code_outcome result ≡ preamble_codes self.field self.channel preamble }
+    {
+        if 15 <= preamble.row {
+            return Err(IntoCodeError::NoSuchRow);
+        }
+        Ok(self.control(Control::Preamble(preamble)))
+    }
 }
 
 impl Text {
