@@ -63,102 +63,118 @@ impl ControlCode {
         requires { (16 ≤ first) × (first < 32) × (second < 128) × (channel ≡ channel_of first) }
         ensures { result ≡ control_code_of first second }
     {
-        let prefix = first % 8 + 0x10;
-        let meaning = Control::parse(without_field(prefix, second), second);
+        let bytes = ControlBytes {
+            prefix: first % 8 + 0x10,
+            second,
+        };
+        let meaning = bytes.without_field().meaning();
         ControlCode {
-            field: field_of(prefix, second),
+            field: bytes.field(),
             channel,
             control: meaning.unwrap_or(Control::Unknown(first, second)),
         }
     }
 }
 
-// The field that a command names.
-pub(crate) fn field_of(prefix: u8, second: u8) -> Option<Field>
-    ensures { result ≡ field_of prefix second }
-{
-    match prefix {
-        0x14 if names_field(second) => Some(Field::ONE),
-        0x15 if names_field(second) => Some(Field::TWO),
-        _ => None,
-    }
+// The two stripped bytes of a control code, without the channel's bit.
+#[derive(Clone, Copy)]
+pub(crate) struct ControlBytes {
+    pub prefix: u8,
+    pub second: u8,
+    ghost from_10_to_17: { (16 ≤ prefix) × (prefix < 24) },
+    ghost seven_bits: { second < 128 },
 }
 
-// The first byte as field one has it: 15 before 20 to 2F is 14.
-pub(crate) fn without_field(prefix: u8, second: u8) -> u8
-    ensures { result ≡ without_field prefix second }
-{
-    if names_field(second) && prefix == 0x15 {
-        0x14
-    } else {
-        prefix
+impl ControlBytes {
+    // The field that they name.
+    pub(crate) fn field(self) -> Option<Field>
+        ensures { result ≡ field_of self.prefix self.second }
+    {
+        match self.prefix {
+            0x14 if names_field(self.second) => Some(Field::ONE),
+            0x15 if names_field(self.second) => Some(Field::TWO),
+            _ => None,
+        }
     }
-}
 
-impl Control {
-    // What two bytes mean, channel and field aside: below 40 the first byte and the second's upper digit decide.
+    // The bytes as field one has them: 15 before 20 to 2F is 14.
+    pub(crate) fn without_field(self) -> ControlBytes
+        ensures first { result.prefix ≡ without_field self.prefix self.second }
+        ensures second { result.second ≡ self.second }
+    {
+        if names_field(self.second) && self.prefix == 0x15 {
+            ControlBytes {
+                prefix: 0x14,
+                second: self.second,
+            }
+        } else {
+            self
+        }
+    }
+
+    // What they mean, channel and field aside: below 40 the first byte and the second's upper digit decide.
     #[tactic(auto, using(crate::proofs::Meaning::other_told))]
-    pub(crate) fn parse(prefix: u8, second: u8) -> Option<Control>
-        requires { (16 ≤ prefix) × (prefix < 24) × (second < 128) }
-        ensures { result ≡ meaning prefix second }
+    pub(crate) fn meaning(self) -> Option<Control>
+        ensures { result ≡ meaning self.prefix self.second }
     {
+        let second = self.second;
         if 0x40 <= second {
-            return Control::parse_preamble(prefix, second);
+            return self.preamble();
         }
-        match (prefix, second / 16) {
+        match (self.prefix, second / 16) {
             (0x11, 2) => Some(Control::MidRow(MidRow::at(second % 16 / 2, second % 2 == 1))),
-            (0x11, 3) => Control::parse_symbol(SymbolRow::Special, second),
-            (0x12, 2) => Control::parse_symbol(SymbolRow::Spanish, second),
-            (0x12, 3) => Control::parse_symbol(SymbolRow::French, second),
-            (0x13, 2) => Control::parse_symbol(SymbolRow::Portuguese, second),
-            (0x13, 3) => Control::parse_symbol(SymbolRow::German, second),
+            (0x11, 3) => symbol_in(SymbolRow::Special, second),
+            (0x12, 2) => symbol_in(SymbolRow::Spanish, second),
+            (0x12, 3) => symbol_in(SymbolRow::French, second),
+            (0x13, 2) => symbol_in(SymbolRow::Portuguese, second),
+            (0x13, 3) => symbol_in(SymbolRow::German, second),
             (0x14, 2) => Some(Control::Command(Command::at(second % 16))),
-            (0x17, 2) => Control::parse_tab(second),
+            (0x17, 2) => tab_in(second),
             _ => None,
         }
     }
 
-    // The symbol of a row, its column in the low digit of the second byte.
-    pub(crate) fn parse_symbol(row: SymbolRow, second: u8) -> Option<Control>
-        ensures { result ≡ symbol_in row second }
-    {
-        Some(Control::Symbol(Symbol {
-            row,
-            column: Column::at(second % 16),
-        }))
-    }
-
-    // The tab of a second byte after 17, or nothing.
-    pub(crate) fn parse_tab(second: u8) -> Option<Control>
-        ensures { result ≡ tab_in second }
-    {
-        match second {
-            0x21 => Some(Control::Tab(Tab::TabOffset1)),
-            0x22 => Some(Control::Tab(Tab::TabOffset2)),
-            0x23 => Some(Control::Tab(Tab::TabOffset3)),
-            _ => None,
-        }
-    }
-
-    // The preamble of two bytes, or nothing: 10 before 60 to 7F is no row.
+    // The preamble of two bytes, the second from 40 on, or nothing: 10 before 60 to 7F is no row.
     #[tactic(auto, using(crate::proofs::Meaning::row_told))]
-    pub(crate) fn parse_preamble(prefix: u8, second: u8) -> Option<Control>
-        requires { (16 ≤ prefix) × (prefix < 24) × (64 ≤ second) × (second < 128) }
-        ensures { result ≡ meaning prefix second }
+    pub(crate) fn preamble(self) -> Option<Control>
+        requires { 64 ≤ self.second }
+        ensures { result ≡ meaning self.prefix self.second }
     {
-        let first = first_row(prefix % 8);
-        let row = if second < 0x60 {
+        let first = first_row(self.prefix % 8);
+        let row = if self.second < 0x60 {
             first
-        } else if prefix == 0x10 {
+        } else if self.prefix == 0x10 {
             return None;
         } else {
             first + 1
         };
         Some(Control::Preamble(PreambleAddressCode {
             row,
-            underline: second % 2 == 1,
-            ty: PreambleType::at(second % 32 / 2),
+            underline: self.second % 2 == 1,
+            ty: PreambleType::at(self.second % 32 / 2),
         }))
+    }
+}
+
+// The symbol of a row, its column in the low digit of the second byte.
+pub(crate) fn symbol_in(row: SymbolRow, second: u8) -> Option<Control>
+    ensures { result ≡ symbol_in row second }
+{
+    Some(Control::Symbol(Symbol {
+        row,
+        column: Column::at(second % 16),
+    }))
+}
+
+// The tab of a second byte after 17, or nothing.
+pub(crate) fn tab_in(second: u8) -> Option<Control>
+    ensures { result ≡ tab_in second }
+{
+    match second {
+        0x21 => Some(Control::Tab(Tab::TabOffset1)),
+        0x22 => Some(Control::Tab(Tab::TabOffset2)),
+        0x23 => Some(Control::Tab(Tab::TabOffset3)),
+        _ => None,
     }
 }
 
