@@ -1,7 +1,10 @@
 -- The numbers of the small enums: each is below the count of cases, and the case at a case's number is that case.
 -- Assumes nothing.
-use mathlib.Core.Path.{◌≡◌, refl, ap, ap₂, ◌∙◌}
-use mathlib.Core.Bool.{cond}
+use Rattle.std.specs.Prelude.{Result, Ok, Err, IsOk}
+use Rattle.code.specs.Number.{numbered}
+use Rattle.code.specs.declared.number.NoSuchNumber.{NoSuchNumber}
+use mathlib.Core.Path.{◌≡◌, refl, ap, ap₂, subst, sym, ◌∙◌}
+use mathlib.Core.Bool.{Bool, cond}
 use Rattle.std.specs.Prelude.{None, Some}
 use Prim.Native.Nat.{ℕ, ◌*◌, ◌-◌, ◌/◌, ◌%◌, ◌<◌}
 use native.Mathlib.Nat.{lt_trans}
@@ -34,6 +37,18 @@ use Rattle.code.specs.declared.preamble.PreambleType.TheVariants as style
 use Rattle.code.specs.declared.symbol.Symbol.{Symbol}
 use Rattle.code.specs.declared.symbol.SymbolRow.{SymbolRow}
 use Rattle.code.specs.declared.symbol.SymbolRow.TheVariants.{Special, Spanish, French, Portuguese, German}
+
+same_value : {A E : Type 0} {x y : A} → ◌≡◌ {A = Result A E} (Ok x) (Ok y) → x ≡ y
+same_value e = cc
+
+-- the value that a number below the limit names
+pub value_told : {A : Type 0} (limit : ℕ) (at : ℕ → A) (n : ℕ) (r : Result A NoSuchNumber) (x : A) → n < limit → r ≡ numbered limit at n → r ≡ Ok x → x ≡ at n
+value_told {A} limit at n r x less gives is =
+    same_value {E = NoSuchNumber} (sym is ∙ gives ∙ ap (λ (t : Bool). cond t (Ok (at n)) (Err (record {}))) (lt-ltb n limit less))
+
+pub value_there : {A : Type 0} (limit : ℕ) (at : ℕ → A) (n : ℕ) (r : Result A NoSuchNumber) → n < limit → r ≡ numbered limit at n → IsOk r
+value_there {A} limit at n r less gives =
+    subst (λ (o : Result A NoSuchNumber). IsOk o) (sym (gives ∙ ap (λ (t : Bool). cond t (Ok (at n)) (Err (record {}))) (lt-ltb n limit less))) refl
 
 -- a number that is below n and leads back to its case
 abbrev pub Back : {A : Type 0} → (ℕ → A) → (A → ℕ) → ℕ → A → Type 0

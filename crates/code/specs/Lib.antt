@@ -1,5 +1,6 @@
 pub mod Outcome
 pub mod Range
+pub mod Number
 pub mod Pair
 pub mod Position
 pub mod Parity

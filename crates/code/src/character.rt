@@ -65,7 +65,7 @@ impl Code {
         }
         let table = code_table();
         match find_point(&table, c) {
-            Some(entry) => Ok(Code::Letter(Letter::at((entry - 1) as u8))),
+            Some(entry) => Ok(Code::Letter(Letter::try_from((entry - 1) as u8).unwrap())),
             None => Code::symbol_from_char(c, channel),
         }
     }
@@ -81,7 +81,7 @@ impl Code {
             Some(entry) => Ok(Code::Control(ControlCode {
                 field: None,
                 channel,
-                control: Control::Symbol(Symbol::at(entry as u8)),
+                control: Control::Symbol(Symbol::try_from(entry as u8).unwrap()),
             })),
             None => Err(NoSuchCharacter),
         }

@@ -1,10 +1,12 @@
 // Control codes: what their two bytes mean, channel and field aside.
 ghost use Rattle.std.specs.Prelude.{◌≡◌, ◌<◌};
+ghost use Rattle.code.specs.Number.{numbered};
 ghost use Rattle.code.specs.Control.{command_at, command_number, tab_number, tab_offset, tab_offset_outcome};
 ghost use Rattle.code.specs.Control.{names_field, control_code, channel_in, field_in, control_in};
 
 use crate::channel::{Channel, Field};
 use crate::midrow::MidRow;
+use crate::number::NoSuchNumber;
 use crate::preamble::PreambleAddressCode;
 use crate::symbol::Symbol;
 
@@ -83,32 +85,36 @@ pub(crate) fn names_field(second: u8) -> bool
     second / 16 == 2
 }
 
-impl Command {
-    // The command of a number below 16.
-    pub(crate) fn at(n: u8) -> Command
-        requires { n < 16 }
-        ensures { result ≡ command_at n }
-    {
+impl TryFrom<u8> for Command {
+    type Error = NoSuchNumber;
+
+    ghost try_from_gives = { λ n r. r ≡ numbered 16 command_at n };
+
+    // The command of a number of 0 to 15.
+    fn try_from(n: u8) -> Result<Command, NoSuchNumber> {
         match n {
-            0 => Command::ResumeCaptionLoading,
-            1 => Command::Backspace,
-            2 => Command::AlarmOff,
-            3 => Command::AlarmOn,
-            4 => Command::DeleteToEndOfRow,
-            5 => Command::RollUp2,
-            6 => Command::RollUp3,
-            7 => Command::RollUp4,
-            8 => Command::FlashOn,
-            9 => Command::ResumeDirectionCaptioning,
-            10 => Command::TextRestart,
-            11 => Command::ResumeTextDisplay,
-            12 => Command::EraseDisplayedMemory,
-            13 => Command::CarriageReturn,
-            14 => Command::EraseNonDisplayedMemory,
-            _ => Command::EndOfCaption,
+            0 => Ok(Command::ResumeCaptionLoading),
+            1 => Ok(Command::Backspace),
+            2 => Ok(Command::AlarmOff),
+            3 => Ok(Command::AlarmOn),
+            4 => Ok(Command::DeleteToEndOfRow),
+            5 => Ok(Command::RollUp2),
+            6 => Ok(Command::RollUp3),
+            7 => Ok(Command::RollUp4),
+            8 => Ok(Command::FlashOn),
+            9 => Ok(Command::ResumeDirectionCaptioning),
+            10 => Ok(Command::TextRestart),
+            11 => Ok(Command::ResumeTextDisplay),
+            12 => Ok(Command::EraseDisplayedMemory),
+            13 => Ok(Command::CarriageReturn),
+            14 => Ok(Command::EraseNonDisplayedMemory),
+            15 => Ok(Command::EndOfCaption),
+            _ => Err(NoSuchNumber),
         }
     }
+}
 
+impl Command {
     // The command's number, from 0 for 14 20.
     pub fn number(self) -> u8
         ensures { result ≡ command_number self }

@@ -77,7 +77,7 @@ impl MidRow {
         ensures { result ≡ mid_row_at n underline }
     {
         if n < 7 {
-            MidRow::new_color(Color::at(n), underline)
+            MidRow::new_color(Color::try_from(n).unwrap(), underline)
         } else {
             MidRow::new_italics(underline)
         }

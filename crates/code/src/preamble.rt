@@ -1,9 +1,11 @@
 // Preamble address codes: where a row of captions starts and what it looks like.
 ghost use Rattle.std.specs.Prelude.{◌≡◌, ◌<◌};
-ghost use Rattle.code.specs.Preamble.{style_at, plain_style_at, style_of, color_type, color_of_style, indent_in, from_indent, from_indent_outcome};
+ghost use Rattle.code.specs.Number.{numbered};
+ghost use Rattle.code.specs.Preamble.{style_at, style_of, color_type, color_of_style, indent_in, from_indent, from_indent_outcome};
 ghost use Rattle.code.specs.Preamble.{new_preamble, new_preamble_outcome, row_in, column_in, type_in, underline_in, italics_in, color_in_row};
 
 use crate::color::Color;
+use crate::number::NoSuchNumber;
 
 // The sixteen styles. An indent is white and not in italics.
 #[derive(Clone, Copy)]
@@ -24,13 +26,36 @@ pub enum PreambleType {
 #[derive(Clone, Copy, Debug, PartialEq, Eq)]
 pub struct NoSuchIndent;
 
+impl TryFrom<u8> for PreambleType {
+    type Error = NoSuchNumber;
+
+    ghost try_from_gives = { λ n r. r ≡ numbered 16 style_at n };
+
+    // The style of a number of 0 to 15.
+    fn try_from(style: u8) -> Result<PreambleType, NoSuchNumber> {
+        match style {
+            0..=6 => Ok(PreambleType::Color(Color::try_from(style).unwrap())),
+            7 => Ok(PreambleType::WhiteItalics),
+            8 => Ok(PreambleType::Indent0),
+            9 => Ok(PreambleType::Indent4),
+            10 => Ok(PreambleType::Indent8),
+            11 => Ok(PreambleType::Indent12),
+            12 => Ok(PreambleType::Indent16),
+            13 => Ok(PreambleType::Indent20),
+            14 => Ok(PreambleType::Indent24),
+            15 => Ok(PreambleType::Indent28),
+            _ => Err(NoSuchNumber),
+        }
+    }
+}
+
 impl PreambleType {
     // The style of an indent of 0, 4, .. 28 columns.
     pub fn from_indent(indent: u8) -> Result<PreambleType, NoSuchIndent>
         ensures { from_indent_outcome result ≡ from_indent indent }
     {
         if indent % 4 == 0 && indent <= 28 {
-            Ok(PreambleType::at(8 + indent / 4))
+            Ok(PreambleType::try_from(8 + indent / 4).unwrap())
         } else {
             Err(NoSuchIndent)
         }
@@ -49,7 +74,7 @@ impl PreambleType {
     {
         let style = self.style();
         if style < 7 {
-            Color::at(style)
+            Color::try_from(style).unwrap()
         } else {
             Color::White
         }
@@ -82,36 +107,6 @@ impl PreambleType {
             PreambleType::Indent20 => 13,
             PreambleType::Indent24 => 14,
             PreambleType::Indent28 => 15,
-        }
-    }
-
-    // The style of a number below 16.
-    pub(crate) fn at(style: u8) -> PreambleType
-        requires { style < 16 }
-        ensures { result ≡ style_at style }
-    {
-        if style < 7 {
-            PreambleType::Color(Color::at(style))
-        } else {
-            PreambleType::plain_at(style - 7)
-        }
-    }
-
-    // The styles that are no colour: white italics, then the eight indents.
-    pub(crate) fn plain_at(n: u8) -> PreambleType
-        requires { n < 9 }
-        ensures { result ≡ plain_style_at n }
-    {
-        match n {
-            0 => PreambleType::WhiteItalics,
-            1 => PreambleType::Indent0,
-            2 => PreambleType::Indent4,
-            3 => PreambleType::Indent8,
-            4 => PreambleType::Indent12,
-            5 => PreambleType::Indent16,
-            6 => PreambleType::Indent20,
-            7 => PreambleType::Indent24,
-            _ => PreambleType::Indent28,
         }
     }
 }

@@ -2,6 +2,9 @@
 ghost use Rattle.std.specs.Prelude.{◌≡◌, ◌≤◌, ◌<◌, ◌%◌};
 ghost use Rattle.code.specs.Read.{read_pair, from_data_outcome, single, channel_of, control_code_of, field_of, without_field, meaning, symbol_in};
 ghost use Rattle.code.specs.Tables.{first_row_at, tab_in};
+ghost use Rattle.code.specs.Control.{command_at};
+ghost use Rattle.code.specs.Preamble.{style_at};
+ghost use Rattle.std.specs.Prelude.{◌/◌};
 
 use crate::channel::{Channel, Field};
 use crate::code::Code;
@@ -48,7 +51,7 @@ impl Code {
         ensures { result ≡ single byte }
     {
         if 0x20 <= byte {
-            Code::Letter(Letter::at(byte - 0x20))
+            Code::Letter(Letter::try_from(byte - 0x20).unwrap())
         } else if byte == 0 {
             Code::Nul
         } else {
@@ -128,10 +131,26 @@ impl ControlBytes {
             (0x12, 3) => symbol_in(SymbolRow::French, second),
             (0x13, 2) => symbol_in(SymbolRow::Portuguese, second),
             (0x13, 3) => symbol_in(SymbolRow::German, second),
-            (0x14, 2) => Some(Control::Command(Command::at(second % 16))),
+            (0x14, 2) => Some(Control::Command(self.command())),
             (0x17, 2) => tab_in(second),
             _ => None,
         }
+    }
+
+    // The command in the low digit of the second byte.
+    #[tactic(auto, using(crate::proofs::Numbers::value_told))]
+    pub(crate) fn command(self) -> Command
+        ensures { result ≡ command_at (self.second % 16) }
+    {
+        Command::try_from(self.second % 16).unwrap()
+    }
+
+    // The style of a preamble, in bits 0x1E of the second byte.
+    #[tactic(auto, using(crate::proofs::Numbers::value_told))]
+    pub(crate) fn style(self) -> PreambleType
+        ensures { result ≡ style_at (self.second % 32 / 2) }
+    {
+        PreambleType::try_from(self.second % 32 / 2).unwrap()
     }
 
     // The preamble of two bytes, the second from 40 on, or nothing: 10 before 60 to 7F is no row.
@@ -151,7 +170,7 @@ impl ControlBytes {
         Some(Control::Preamble(PreambleAddressCode {
             row,
             underline: self.second % 2 == 1,
-            ty: PreambleType::at(self.second % 32 / 2),
+            ty: self.style(),
         }))
     }
 }
@@ -162,7 +181,7 @@ pub(crate) fn symbol_in(row: SymbolRow, second: u8) -> Option<Control>
 {
     Some(Control::Symbol(Symbol {
         row,
-        column: Column::at(second % 16),
+        column: Column::try_from(second % 16).unwrap(),
     }))
 }
 

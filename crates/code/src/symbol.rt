@@ -1,8 +1,10 @@
 // The characters that are sent as control codes: the special characters and four rows of extended ones.
 ghost use Rattle.std.specs.Prelude.{◌≡◌, ◌<◌};
+ghost use Rattle.code.specs.Number.{numbered};
 ghost use Rattle.code.specs.Symbol.{symbol_row_at, symbol_row_number, symbol_at, symbol_place};
 
 use crate::column::Column;
+use crate::number::NoSuchNumber;
 
 // The rows, in the order of their bytes.
 #[derive(Clone, Copy)]
@@ -25,21 +27,25 @@ pub struct Symbol {
     pub column: Column,
 }
 
-impl SymbolRow {
-    // The row of a number below 5.
-    pub(crate) fn at(n: u8) -> SymbolRow
-        requires { n < 5 }
-        ensures { result ≡ symbol_row_at n }
-    {
+impl TryFrom<u8> for SymbolRow {
+    type Error = NoSuchNumber;
+
+    ghost try_from_gives = { λ n r. r ≡ numbered 5 symbol_row_at n };
+
+    // The row of a number of 0 to 4.
+    fn try_from(n: u8) -> Result<SymbolRow, NoSuchNumber> {
         match n {
-            0 => SymbolRow::Special,
-            1 => SymbolRow::Spanish,
-            2 => SymbolRow::French,
-            3 => SymbolRow::Portuguese,
-            _ => SymbolRow::German,
+            0 => Ok(SymbolRow::Special),
+            1 => Ok(SymbolRow::Spanish),
+            2 => Ok(SymbolRow::French),
+            3 => Ok(SymbolRow::Portuguese),
+            4 => Ok(SymbolRow::German),
+            _ => Err(NoSuchNumber),
         }
     }
+}
 
+impl SymbolRow {
     // The row's number, from 0 for the special characters.
     pub fn number(self) -> u8
         ensures { result ≡ symbol_row_number self }
@@ -48,18 +54,21 @@ impl SymbolRow {
     }
 }
 
-impl Symbol {
-    // The symbol at a place below 80.
-    pub(crate) fn at(place: u8) -> Symbol
-        requires { place < 80 }
-        ensures { result ≡ symbol_at place }
-    {
-        Symbol {
-            row: SymbolRow::at(place / 16),
-            column: Column::at(place % 16),
-        }
-    }
+impl TryFrom<u8> for Symbol {
+    type Error = NoSuchNumber;
 
+    ghost try_from_gives = { λ n r. r ≡ numbered 80 symbol_at n };
+
+    // The symbol at a place of 0 to 79.
+    fn try_from(place: u8) -> Result<Symbol, NoSuchNumber> {
+        Ok(Symbol {
+            row: SymbolRow::try_from(place / 16)?,
+            column: Column::try_from(place % 16).unwrap(),
+        })
+    }
+}
+
+impl Symbol {
     // The symbol's place, from 0 for the registered mark.
     pub fn place(self) -> u8
         ensures { result ≡ symbol_place self }

@@ -2,6 +2,8 @@
 use Rattle.std.proofs.Common.{None, Some, ap, ◌∙◌, arith}
 use Rattle.code.proofs.First.{searched}
 use Rattle.code.proofs.Lookup.{found_letter, found_no_letter, letter_inside, zero_has_no_code}
+use Rattle.code.proofs.Numbers.{value_told}
+use Rattle.code.specs.Letter.{letter_at}
 use Rattle.code.specs.Outcome.{answer}
 use Rattle.code.specs.declared.code.Code.TheVariants as code
 use Rattle.code.specs.declared.letter.Letter.{Letter}
@@ -22,16 +24,12 @@ overflow_cast-entry c =
     let inside = letter_inside c.args.c c.args.channel c.if-c-eq0.false _ place in
     omega arith
 
-pub at-requires : goal.at-requires
-at-requires c =
-    (letter_inside c.args.c c.args.channel c.if-c-eq0.false _
-    (searched c.args.c _ _ (Some _) c.in-Some.ensures c.code_table-table.ensures)).1
-
 pub returns-in-Some : goal.returns-in-Some
 returns-in-Some c =
-    ap (λ (l : Letter). answer (code.Letter l)) c.at.ensures
-    ∙ found_letter c.args.c c.args.channel c.if-c-eq0.false _
-    (searched c.args.c _ _ (Some _) c.in-Some.ensures c.code_table-table.ensures)
+    let place = searched c.args.c _ _ (Some _) c.in-Some.ensures c.code_table-table.ensures in
+    let inside = letter_inside c.args.c c.args.channel c.if-c-eq0.false _ place in
+    ap (λ (l : Letter). answer (code.Letter l)) (value_told 96 letter_at _ _ _ inside.1 c.try_from.ensures c.unwrap.ensures)
+    ∙ found_letter c.args.c c.args.channel c.if-c-eq0.false _ place
 
 pub returns-in-None : goal.returns-in-None
 returns-in-None c =
