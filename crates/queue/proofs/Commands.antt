@@ -20,7 +20,6 @@ use Rattle.code.specs.Write.{in_domain, is_command_code, is_command_control, wri
 use Rattle.code.specs.declared.code.Code.{Code}
 use Rattle.code.specs.declared.code.Code.TheVariants as code
 use Rattle.code.specs.declared.color.Color.TheVariants.{White}
-use Rattle.code.specs.declared.control.CodeField.TheVariants.{Absent}
 use Rattle.code.specs.declared.control.Control.TheVariants as control
 use Rattle.code.specs.declared.pair.Pair.{Pair}
 use Rattle.code.specs.declared.preamble.PreambleType.TheVariants as style
@@ -105,7 +104,7 @@ popped_is_read v f = popped_command v f ∙ popped_is_a_command v f
 -- the exception: `Unknown` 14 before A goes out as 94 C1, which a receiver reads as a preamble, row 13 in white, underlined
 abbrev row_13_underlined : Code
 row_13_underlined = code.Control (record {
-  field = Absent;
+  field = None;
   channel = channel_one;
   control = control.Preamble (record { row = 13; underline = true; ty = style.Color White });
 })

@@ -18,7 +18,6 @@ use Rattle.code.specs.Write.{control_bytes, in_domain, is_command_code, is_comma
 use Rattle.code.specs.declared.channel.Channel.{Channel}
 use Rattle.code.specs.declared.code.Code.{Code}
 use Rattle.code.specs.declared.code.Code.TheVariants as code
-use Rattle.code.specs.declared.control.CodeField.TheVariants.{Absent}
 use Rattle.code.specs.declared.control.Control.{Control}
 use Rattle.code.specs.declared.control.Control.TheVariants as control
 use Rattle.queue.proofs.WellFormed.{formed, held_queueable, may_queueable}
@@ -110,7 +109,7 @@ no_text_inside q e = let f = formed q e in inside_undressed (held_in q.held) (wa
 -- cases of 18, computed on the list
 -- the two-byte `Unknown` of a channel
 abbrev unknown : Channel → ℕ → ℕ → Code
-unknown ch a b = code.Control (record { field = Absent; channel = ch; control = control.Unknown a b })
+unknown ch a b = code.Control (record { field = None; channel = ch; control = control.Unknown a b })
 
 -- 41 42 would go out as the letters A and B: it is refused 18, and nothing goes out
 pub text_is_refused : list_replies (pushing (unknown channel_one 0x41 0x42) ∷ popping ∷ []) empty ≡ to_push (refused 18) ∷ to_pop (answer (pair 0x80 0x80)) ∷ []

@@ -4,7 +4,7 @@ pub mod Dressed
 pub mod Entries
 pub mod FirstInFirstOut
 pub mod Fit
-pub mod IllFormed
+pub mod FromIllFormed
 pub mod Numbered
 pub mod OneAnswer
 pub mod Order

@@ -1,6 +1,8 @@
 -- The numbers of the ring: every number stands for a code that may wait, the number of such a code gives that code back, and
 -- a code's length, its bytes and whether it needs a backspace are told by its number alone.
 -- Assumes nothing.
+use Rattle.std.specs.Prelude.{None}
+use Rattle.code.specs.declared.channel.Field.{Field}
 use mathlib.Core.Bool.{Bool, true, false, cond, ◌&&◌, ◌||◌, not, true≢false}
 use Rattle.std.specs.Prelude.{Option, option_map, Some}
 use mathlib.Core.Path.{◌≡◌, refl, ap, ap₂, sym, ◌∙◌}
@@ -25,8 +27,6 @@ use Rattle.code.specs.Write.{as_single, command_bytes, control_bytes, control_in
 use Rattle.code.specs.declared.channel.Channel.{Channel}
 use Rattle.code.specs.declared.code.Code.{Code}
 use Rattle.code.specs.declared.code.Code.TheVariants as code
-use Rattle.code.specs.declared.control.CodeField.{CodeField}
-use Rattle.code.specs.declared.control.CodeField.TheVariants.{Of, Absent}
 use Rattle.code.specs.declared.control.Control.{Control}
 use Rattle.code.specs.declared.control.Control.TheVariants as control
 use Rattle.code.specs.declared.control.ControlCode.{ControlCode}
@@ -181,20 +181,20 @@ backspace_told n below =
     ∙ space_told (n % 0x1000) (omega arith)
 
 -- the digits of a command's number
-abbrev digit : CodeField → ℕ
-digit Absent = 0
-digit (Of f) = cond f.0 1 2
+abbrev digit : Option Field → ℕ
+digit None = 0
+digit (Some f) = cond f.0 1 2
 
-abbrev field_at : ℕ → CodeField
-field_at d = cond (eqb d 1) (Of field_one) (cond (eqb d 2) (Of field_two) Absent)
+abbrev field_at : ℕ → Option Field
+field_at d = cond (eqb d 1) (Some field_one) (cond (eqb d 2) (Some field_two) None)
 
-named_field : (t : Bool) → (field_at (cond t 1 2) ≡ Of (record { 0 = t })) × (cond t 0x2000 0x4000 ≡ 0x2000 * cond t 1 2) × (cond t 1 2 < 3)
+named_field : (t : Bool) → (field_at (cond t 1 2) ≡ Some (record { 0 = t })) × (cond t 0x2000 0x4000 ≡ 0x2000 * cond t 1 2) × (cond t 1 2 < 3)
 named_field true = (refl, refl, omega arith)
 named_field false = (refl, refl, omega arith)
 
-field_digit : (f : CodeField) → (field_at (digit f) ≡ f) × (field_number f ≡ 0x2000 * digit f) × (digit f < 3)
-field_digit Absent = (refl, refl, omega arith)
-field_digit (Of f) = named_field f.0
+field_digit : (f : Option Field) → (field_at (digit f) ≡ f) × (field_number f ≡ 0x2000 * digit f) × (digit f < 3)
+field_digit None = (refl, refl, omega arith)
+field_digit (Some f) = named_field f.0
 
 abbrev channel_at : ℕ → Channel
 channel_at d = cond (eqb d 0) channel_one channel_two
@@ -231,7 +231,7 @@ in_bytes : (a b : ℕ) → a % 16 * 128 + b % 128 < 0x800
 in_bytes a b = omega arith
 
 -- a command from its digits, and whether it is an `Unknown` and its two bytes, those of a control code
-module _ (f : CodeField) (ch : Channel) (u a b n : ℕ) (small : u < 2) (from : 16 ≤ a) (below : a < 32) (less : b < 128) (e : n ≡ field_number f + channel_number ch + (0x800 * u + (a % 16 * 128 + b % 128))) where
+module _ (f : Option Field) (ch : Channel) (u a b n : ℕ) (small : u < 2) (from : 16 ≤ a) (below : a < 32) (less : b < 128) (e : n ≡ field_number f + channel_number ch + (0x800 * u + (a % 16 * 128 + b % 128))) where
   abbrev fd : ℕ
   fd = digit f
 
@@ -273,12 +273,12 @@ module _ (f : CodeField) (ch : Channel) (u a b n : ℕ) (small : u < 2) (from : 
   by_digits : code_of n ≡ code.Control (record { field = f; channel = ch; control = control_of u a b })
   by_digits =
       as_command_lem n under_half
-      ∙ ap₂ {C = Code} (λ (x : CodeField) (y : Channel). code.Control (record { field = x; channel = y; control = control_of (n / 0x800 % 2) (first_in n) (second_in n) })) (ap field_at of_field ∙ (field_digit f).0) (ap channel_at of_channel ∙ (named_channel ch.0).0)
+      ∙ ap₂ {C = Code} (λ (x : Option Field) (y : Channel). code.Control (record { field = x; channel = y; control = control_of (n / 0x800 % 2) (first_in n) (second_in n) })) (ap field_at of_field ∙ (field_digit f).0) (ap channel_at of_channel ∙ (named_channel ch.0).0)
       ∙ ap {B = Code} (λ (x : ℕ). code.Control (record { field = f; channel = ch; control = control_of x (first_in n) (second_in n) })) of_kind
       ∙ ap₂ {C = Code} (λ (x y : ℕ). code.Control (record { field = f; channel = ch; control = control_of u x y })) of_first of_second
 
 -- a control that is what its bytes mean
-meant_back : (f : CodeField) (ch : Channel) (c : Control) (p : Pair) → is_pair_of_control p ≡ true → meaning p.0 p.1 ≡ Some c → code_of (field_number f + channel_number ch + bytes_number p) ≡ code.Control (record { field = f; channel = ch; control = c })
+meant_back : (f : Option Field) (ch : Channel) (c : Control) (p : Pair) → is_pair_of_control p ≡ true → meaning p.0 p.1 ≡ Some c → code_of (field_number f + channel_number ch + bytes_number p) ≡ code.Control (record { field = f; channel = ch; control = c })
 meant_back f ch c p fits means =
     let first = both_left (is_command p.0) (ltb p.1 0x80) fits in
     let second = ltb-true p.1 0x80 (both_right (is_command p.0) (ltb p.1 0x80) fits) in
@@ -286,13 +286,13 @@ meant_back f ch c p fits means =
     by_digits f ch 0 p.0 p.1 (field_number f + channel_number ch + bytes_number p) (omega arith) range.0 range.1 second (omega arith)
     ∙ ap {B = Code} (λ (o : Option Control). code.Control (record { field = f; channel = ch; control = or_unknown p.0 p.1 o })) means
 
-preamble_back : (f : CodeField) (ch : Channel) (p : PreambleAddressCode) (t : Bool) → leb p.row 14 ≡ t → is_answer (unless_dressed false (cond t (answer tt) (refused 3))) ≡ true → code_of (field_number f + channel_number ch + number_in (cond t (answer (preamble_bytes p)) (refused 3))) ≡ code.Control (record { field = f; channel = ch; control = control.Preamble p })
+preamble_back : (f : Option Field) (ch : Channel) (p : PreambleAddressCode) (t : Bool) → leb p.row 14 ≡ t → is_answer (unless_dressed false (cond t (answer tt) (refused 3))) ≡ true → code_of (field_number f + channel_number ch + number_in (cond t (answer (preamble_bytes p)) (refused 3))) ≡ code.Control (record { field = f; channel = ch; control = control.Preamble p })
 preamble_back f ch p true e may =
     let inside : p.row < 15 = omega (arith, leb-true p.row 14 e) in
     meant_back f ch (control.Preamble p) (preamble_bytes p) (preamble_pair p inside) (preamble_meant p inside)
 preamble_back f ch p false e may = absurd (true≢false (sym may))
 
-unknown_back : (f : CodeField) (ch : Channel) (a b : ℕ) (t u : Bool) → (ltb a 0x80 && ltb b 0x80) ≡ t → is_command a ≡ u → is_answer (unless_dressed (not u) (of_seven_bits t tt)) ≡ true → code_of (field_number f + channel_number ch + (0x800 + number_in (cond t (answer (pair a b)) (refused 2)))) ≡ code.Control (record { field = f; channel = ch; control = control.Unknown a b })
+unknown_back : (f : Option Field) (ch : Channel) (a b : ℕ) (t u : Bool) → (ltb a 0x80 && ltb b 0x80) ≡ t → is_command a ≡ u → is_answer (unless_dressed (not u) (of_seven_bits t tt)) ≡ true → code_of (field_number f + channel_number ch + (0x800 + number_in (cond t (answer (pair a b)) (refused 2)))) ≡ code.Control (record { field = f; channel = ch; control = control.Unknown a b })
 unknown_back f ch a b true true e first may =
     let range = command_range a first in
     let less = ltb-true b 0x80 (both_right (ltb a 0x80) (ltb b 0x80) e) in
@@ -300,7 +300,7 @@ unknown_back f ch a b true true e first may =
 unknown_back f ch a b true false e first may = absurd (true≢false (sym may))
 unknown_back f ch a b false u e first may = absurd (true≢false (sym may))
 
-control_back : (f : CodeField) (ch : Channel) (c : Control) → is_answer (control_tested c) ≡ true → code_of (field_number f + channel_number ch + control_number c) ≡ code.Control (record { field = f; channel = ch; control = c })
+control_back : (f : Option Field) (ch : Channel) (c : Control) → is_answer (control_tested c) ≡ true → code_of (field_number f + channel_number ch + control_number c) ≡ code.Control (record { field = f; channel = ch; control = c })
 unfolding control_bytes
 control_back f ch (control.MidRow m) may = meant_back f ch (control.MidRow m) (mid_row_bytes m) (mid_row_pair m) (mid_row_meant m)
 control_back f ch (control.Symbol s) may = meant_back f ch (control.Symbol s) (symbol_bytes s) (symbol_pair s) (symbol_meant s)

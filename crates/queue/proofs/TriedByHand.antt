@@ -2,6 +2,7 @@
 -- every reply; and a mid-row code, before which a space goes out. antt computes each from the definitions of the list; the
 -- ring answers the same. Those marked P are in `TriedByHand` of `agreement`, one list of all layers.
 -- Assumes nothing.
+use Rattle.std.specs.Prelude.{None}
 use mathlib.Core.Bool.{false}
 use mathlib.Core.List.{List, [], ◌∷◌, ◌++◌}
 use mathlib.Core.Path.{◌≡◌, refl, ◌∙◌}
@@ -15,7 +16,6 @@ use Rattle.code.specs.Pair.{pair}
 use Rattle.code.specs.Write.{control_bytes, in_domain, on_line, write_code}
 use Rattle.code.specs.declared.code.Code.{Code}
 use Rattle.code.specs.declared.code.Code.TheVariants as code
-use Rattle.code.specs.declared.control.CodeField.TheVariants as field
 use Rattle.code.specs.declared.control.Control.TheVariants as control
 use Rattle.queue.proofs.FirstInFirstOut.{ring_answers_as_the_list}
 use Rattle.queue.proofs.Refines.{fresh_good}
@@ -29,7 +29,7 @@ abbrev exclamation : Code
 exclamation = single 0x21
 
 abbrev italics : Code
-italics = code.Control (record { field = field.Absent; channel = channel_one; control = control.MidRow (italic false) })
+italics = code.Control (record { field = None; channel = channel_one; control = control.MidRow (italic false) })
 
 -- the replies due to each sequence of calls, those to the pushes included
 abbrev Tried : (List Call → List Reply) → Type 0

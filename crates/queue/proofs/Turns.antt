@@ -3,6 +3,7 @@
 -- Assumes nothing.
 use mathlib.Core.Bool.{Bool, true, false, cond}
 use mathlib.Core.List.{List, [], ◌∷◌}
+use Rattle.std.specs.Prelude.{Option, None, Some}
 use mathlib.Core.Path.{◌≡◌, refl, ap, ap₂, sym, ◌∙◌}
 use Prim.Native.Nat.{ℕ, zero, suc, ◌+◌, ◌-◌, ◌≤◌, ◌<◌}
 use native.Mathlib.Omega.{arith}
@@ -17,8 +18,6 @@ use Rattle.queue.specs.Queue.{Pop, byte_of, is_single, pair_of, pop, pop_command
 use Rattle.queue.specs.Ring.{code_at_place, codes_from, held_as, held_in, left_in, number_at, view}
 use Rattle.queue.specs.Turn.{command_turn, freeing, front_turn, single_turn, turn_by, turn_of}
 use Rattle.queue.specs.declared.pop.Turn.{Turn}
-use Rattle.queue.specs.declared.ring.Held.{Held}
-use Rattle.queue.specs.declared.ring.Held.TheVariants as held
 use Rattle.queue.specs.declared.ring.Queue.{Queue}
 
 none_freed : (n : ℕ) → n - n ≡ 0
@@ -30,18 +29,18 @@ one_freed n = omega arith
 two_freed : (n : ℕ) → suc (suc n) - n ≡ 2
 two_freed n = omega arith
 
-abbrev turning : Pair → ℕ → Held → Turn
+abbrev turning : Pair → ℕ → Option ℕ → Turn
 turning p freed h = record { pair = p; freed = freed; held = h }
 
 -- a held code goes out, and no place is freed
-pub held_turn : (first second waiting n : ℕ) → turn_of first second waiting (held.Of n) ≡ turning (pair_of (code_of n)) 0 held.Absent
+pub held_turn : (first second waiting n : ℕ) → turn_of first second waiting (Some n) ≡ turning (pair_of (code_of n)) 0 None
 unfolding pop
 held_turn first second zero n = refl
 held_turn first second (suc zero) n = refl
 held_turn first second (suc (suc waiting)) n = refl
 
 -- padding where nothing waits
-pub empty_turn : (first second waiting : ℕ) → waiting ≡ 0 → turn_of first second waiting held.Absent ≡ turning (pair 0x80 0x80) 0 held.Absent
+pub empty_turn : (first second waiting : ℕ) → waiting ≡ 0 → turn_of first second waiting None ≡ turning (pair 0x80 0x80) 0 None
 unfolding pop
 empty_turn first second zero e = refl
 empty_turn first second (suc waiting) e = absurd (omega (arith, e))
@@ -58,7 +57,7 @@ command_turns first second (suc (suc waiting)) more e = rw e (by_backspace (need
     by_backspace false wants = rw wants refl
 
 -- a single code with nothing after it
-pub last_turns : (first second waiting : ℕ) → waiting ≡ 1 → is_single (code_of first) ≡ true → front_turn first second waiting ≡ turning (pair (byte_of (code_of first)) 0x80) 1 held.Absent
+pub last_turns : (first second waiting : ℕ) → waiting ≡ 1 → is_single (code_of first) ≡ true → front_turn first second waiting ≡ turning (pair (byte_of (code_of first)) 0x80) 1 None
 unfolding pop
 last_turns first second zero one e = absurd (omega (arith, one))
 last_turns first second (suc zero) one e = rw e refl
@@ -84,17 +83,17 @@ start_is places at =
 command_in_ring : (places : List ℕ) (at : ℕ) (rest : List Code) (t : Bool) → needs_backspace (code_at_place places at) ≡ t → ring_turn places at (code_at_place places at ∷ rest) (pop_command (code_at_place places at) rest) ≡ command_turn (number_at places at)
 command_in_ring places at rest true e =
     rw e
-    (ap₂ (λ (k i : ℕ). turning (pair 0x20 0x80) k (held.Of (number_at places (at + i)))) (one_freed (length rest)) (ap (λ (k : ℕ). k - 1) (one_freed (length rest)))
-    ∙ ap (λ (n : ℕ). turning (pair 0x20 0x80) 1 (held.Of n)) (start_is places at))
+    (ap₂ (λ (k i : ℕ). turning (pair 0x20 0x80) k (Some (number_at places (at + i)))) (one_freed (length rest)) (ap (λ (k : ℕ). k - 1) (one_freed (length rest)))
+    ∙ ap (λ (n : ℕ). turning (pair 0x20 0x80) 1 (Some n)) (start_is places at))
 command_in_ring places at rest false e =
-    rw e (ap (λ (k : ℕ). turning (pair_of (code_at_place places at)) k held.Absent) (one_freed (length rest)))
+    rw e (ap (λ (k : ℕ). turning (pair_of (code_at_place places at)) k None) (one_freed (length rest)))
 
 two_in_ring : (places : List ℕ) (at : ℕ) (rest : List Code) (t : Bool) → is_single (code_at_place places (at + 1)) ≡ t → ring_turn places at (code_at_place places at ∷ code_at_place places (at + 1) ∷ rest) (pop_two (code_at_place places at) (code_at_place places (at + 1)) rest) ≡ single_turn (number_at places at) (number_at places (at + 1))
 two_in_ring places at rest true e =
-    rw e (ap (λ (k : ℕ). turning (pair (byte_of (code_at_place places at)) (byte_of (code_at_place places (at + 1)))) k held.Absent) (two_freed (length rest)))
+    rw e (ap (λ (k : ℕ). turning (pair (byte_of (code_at_place places at)) (byte_of (code_at_place places (at + 1)))) k None) (two_freed (length rest)))
 two_in_ring places at rest false e =
     rw e
-    (ap₂ (λ (k i : ℕ). turning (pair (byte_of (code_at_place places at)) (cond (needs_backspace (code_at_place places (at + 1))) 0x20 0x80)) k (held.Of (number_at places (at + i)))) (two_freed (length rest)) (ap (λ (k : ℕ). k - 1) (two_freed (length rest))))
+    (ap₂ (λ (k i : ℕ). turning (pair (byte_of (code_at_place places at)) (cond (needs_backspace (code_at_place places (at + 1))) 0x20 0x80)) k (Some (number_at places (at + i)))) (two_freed (length rest)) (ap (λ (k : ℕ). k - 1) (two_freed (length rest))))
 
 single_in_ring : (places : List ℕ) (at n : ℕ) → is_single (code_at_place places at) ≡ true → front_turn (number_at places at) (number_at places (at + 1)) (suc n) ≡ ring_turn places at (codes_from places at (suc n)) (pop_single (code_at_place places at) (codes_from places (at + 1) n))
 single_in_ring places at zero e = last_turns (number_at places at) (number_at places (at + 1)) 1 refl e
@@ -109,13 +108,13 @@ front_in_ring places at n false e =
     ∙ sym (command_in_ring places at (codes_from places (at + 1) n) (needs_backspace (code_at_place places at)) refl)
     ∙ rw e refl
 
-in_ring : (places : List ℕ) (at n : ℕ) (h : Held) → turn_of (number_at places at) (number_at places (at + 1)) n h ≡ ring_turn places at (codes_from places at n) (pop (queued (codes_from places at n) (held_in h)))
+in_ring : (places : List ℕ) (at n : ℕ) (h : Option ℕ) → turn_of (number_at places at) (number_at places (at + 1)) n h ≡ ring_turn places at (codes_from places at n) (pop (queued (codes_from places at n) (held_in h)))
 unfolding pop
-in_ring places at n (held.Of k) =
+in_ring places at n (Some k) =
     held_turn (number_at places at) (number_at places (at + 1)) n k
-    ∙ ap (λ (i : ℕ). turning (pair_of (code_of k)) i held.Absent) (sym (none_freed (length (codes_from places at n))))
-in_ring places at zero held.Absent = refl
-in_ring places at (suc n) held.Absent = front_in_ring places at n (is_single (code_at_place places at)) refl
+    ∙ ap (λ (i : ℕ). turning (pair_of (code_of k)) i None) (sym (none_freed (length (codes_from places at n))))
+in_ring places at zero None = refl
+in_ring places at (suc n) None = front_in_ring places at n (is_single (code_at_place places at)) refl
 
 -- the turn by the first two numbers is the ring's pop
 abbrev pub turn_in : Queue → Turn

@@ -1,7 +1,8 @@
 -- What may be queued with its number, kind by kind, as the code tests it.
 -- Assumes nothing.
+use Rattle.code.specs.declared.channel.Field.{Field}
 use mathlib.Core.Bool.{Bool, true, false, cond}
-use Rattle.std.specs.Prelude.{Option, None, Some}
+use Rattle.std.specs.Prelude.{Option, None, Some, Result, Ok, Err, MatchResult, IsOkAnd}
 use mathlib.Core.Path.{◌≡◌, refl, ap, sym, ◌∙◌}
 use Prim.Native.Nat.{ℕ, ◌+◌, ◌/◌, ◌≤◌, ◌<◌}
 use native.Mathlib.Omega.{arith}
@@ -15,8 +16,6 @@ use Rattle.code.specs.Read.{is_command}
 use Rattle.code.specs.Pair.{pair}
 use Rattle.code.specs.Write.{control_bytes, of_seven_bits, preamble_bytes, row_bytes}
 use Rattle.code.specs.declared.code.Code.TheVariants as code
-use Rattle.code.specs.declared.control.CodeField.{CodeField}
-use Rattle.code.specs.declared.control.CodeField.TheVariants.{Of, Absent}
 use Rattle.code.specs.declared.control.Control.{Control}
 use Rattle.code.specs.declared.control.Control.TheVariants as control
 use Rattle.code.specs.declared.control.ControlCode.{ControlCode}
@@ -24,6 +23,8 @@ use Rattle.code.specs.declared.letter.Letter.{Letter}
 use Rattle.code.specs.declared.pair.Pair.{Pair}
 use Rattle.code.specs.declared.preamble.PreambleAddressCode.{PreambleAddressCode}
 use Rattle.queue.proofs.Numbered.{control_may, control_tested, letter_may, nul_may, unknown_may}
+use Rattle.queue.specs.Entry.{number_outcome, verdict_outcome}
+use Rattle.queue.specs.declared.queueable.QueueableError.{QueueableError}
 use Rattle.queue.specs.Number.{bytes_number, channel_number, control_number, field_number, number_in, number_of, numbered, numbered_control, numbered_unknown, plain, whose_number, with_number}
 use Rattle.queue.specs.Queueable.{unless_dressed}
 
@@ -64,11 +65,11 @@ passes whose a b n la lb first e =
     as_tested whose (control.Unknown a b) _ (rw (lt-ltb a 0x80 la, lt-ltb b 0x80 lb, yes) (ap (λ (k : ℕ). answer (Some k)) sum))
 
 -- its field and channel
-field_at_most : (f : CodeField) → field_number f ≤ 0x4000
-field_at_most Absent = omega arith
-field_at_most (Of f) = either f.0
+field_at_most : (f : Option Field) → field_number f ≤ 0x4000
+field_at_most None = omega arith
+field_at_most (Some f) = either f.0
   where
-    either : (t : Bool) → field_number (Of (record { 0 = t })) ≤ 0x4000
+    either : (t : Bool) → field_number (Some (record { 0 = t })) ≤ 0x4000
     either true = omega arith
     either false = omega arith
 
@@ -88,6 +89,12 @@ by_control c w o whose e =
     e
     ∙ ap (λ (n : ℕ). numbered_control n c.control) whose
     ∙ ap (with_number (number_of (code.Control c))) (control_may (plain c.control) ∙ sym (control_may c))
+
+-- the number of a control is the control code's own
+pub as_numbered : (r : Result ℕ QueueableError) (m : Result (Option ℕ) QueueableError) → MatchResult r (λ x. IsOkAnd m (λ y. y ≡ Some x)) (λ e. m ≡ Err e) → verdict_outcome m ≡ number_outcome r
+as_numbered (Ok n) (Ok m) e = ap answer e
+as_numbered (Ok n) (Err f) e = absurd e
+as_numbered (Err f) m e = ap verdict_outcome e
 
 -- and a single code
 pub nul_passes : answer None ≡ numbered code.Nul

@@ -40,6 +40,9 @@ formed q e =
       codes = both_right (ltb q.start 64 && leb q.waiting 64 && held_fits (held_in q.held)) (all_may_wait (waiting_in q)) e;
     }
 
+pub waiting_fits : (q : Queue) → well_formed q ≡ true → q.waiting ≤ 64
+waiting_fits q e = (formed q e).waiting
+
 pub well_formed_lem : (q : Queue) → Formed q → well_formed q ≡ true
 unfolding well_formed
 well_formed_lem q f = simp (lt-ltb q.start 64 f.start, le-leb q.waiting 64 f.waiting, f.held, f.codes)

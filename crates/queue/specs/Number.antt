@@ -2,6 +2,7 @@
 -- may wait, and the number of such a code gives that code back (`proofs/Numbered`). By its bits, of a command, bit 15
 -- clear: 14 and 13 its field, 12 its channel, 11 whether it is an `Unknown`, 10 to 7 its first byte less 10, 6 to 0 its
 -- second byte. Of a single code, bit 15 set: 7 whether it is an `Unknown`, 6 to 0 its byte.
+use Rattle.code.specs.declared.channel.Field.{Field}
 use Rattle.std.specs.Prelude.{ℕ, ◌+◌, ◌*◌, ◌-◌, ◌/◌, ◌%◌, cond, ◌&&◌, eqb, leb}
 use Rattle.std.specs.Prelude.{Option, None, Some}
 use Rattle.code.specs.Channel.{channel_one, channel_two, field_one, field_two}
@@ -12,8 +13,6 @@ use Rattle.code.specs.Write.{control_bytes}
 use Rattle.code.specs.declared.channel.Channel.{Channel}
 use Rattle.code.specs.declared.code.Code.{Code}
 use Rattle.code.specs.declared.code.Code.TheVariants as code
-use Rattle.code.specs.declared.control.CodeField.{CodeField}
-use Rattle.code.specs.declared.control.CodeField.TheVariants.{Of, Absent}
 use Rattle.code.specs.declared.control.Control.{Control}
 use Rattle.code.specs.declared.control.Control.TheVariants as control
 use Rattle.code.specs.declared.control.ControlCode.{ControlCode}
@@ -28,8 +27,8 @@ first_in n = 0x10 + n / 128 % 16
 abbrev pub second_in : ℕ → ℕ
 second_in n = n % 128
 
-abbrev pub field_of_number : ℕ → CodeField
-field_of_number n = cond (eqb (n / 0x2000) 1) (Of field_one) (cond (eqb (n / 0x2000) 2) (Of field_two) Absent)
+abbrev pub field_of_number : ℕ → Option Field
+field_of_number n = cond (eqb (n / 0x2000) 1) (Some field_one) (cond (eqb (n / 0x2000) 2) (Some field_two) None)
 
 abbrev pub channel_of_number : ℕ → Channel
 channel_of_number n = cond (eqb (n / 0x1000 % 2) 0) channel_one channel_two
@@ -54,9 +53,9 @@ code_of n =
 abbrev pub bytes_number : Pair → ℕ
 bytes_number p = p.0 % 16 * 128 + p.1 % 128
 
-abbrev pub field_number : CodeField → ℕ
-field_number Absent = 0
-field_number (Of f) = cond f.0 0x2000 0x4000
+abbrev pub field_number : Option Field → ℕ
+field_number None = 0
+field_number (Some f) = cond f.0 0x2000 0x4000
 
 abbrev pub channel_number : Channel → ℕ
 channel_number c = cond c.0 0 0x1000
@@ -94,7 +93,7 @@ numbered c = with_number (number_of c) (queueable c)
 -- the same of a control, by the part of the number that its field and channel make; whether it may be queued is the same
 -- for each of them
 abbrev pub plain : Control → ControlCode
-plain c = record { field = Absent; channel = channel_one; control = c }
+plain c = record { field = None; channel = channel_one; control = c }
 
 abbrev pub numbered_control : ℕ → Control → Outcome (Option ℕ)
 numbered_control whose c = with_number (Some (whose + control_number c)) (queueable (code.Control (plain c)))

@@ -1,24 +1,16 @@
 -- The ring: which list it stands for, which states are well formed (01's refusal 12), and the record that each call
 -- leaves. The answers are the list's, from `Queue`; where the codes lie is in the port's own words.
 use Rattle.std.specs.Prelude.{ℕ, zero, suc, ◌+◌, ◌-◌, ◌%◌, Bool, true, cond, ◌&&◌, List, [], ◌∷◌, leb, ltb, get_or, length, replicate, set}
-use Rattle.std.specs.Prelude.{Option, None, Some}
+use Rattle.std.specs.Prelude.{Option, None, Some, Result, Ok, Err}
 use Rattle.code.specs.Outcome.{Outcome, answer, refused}
 use Rattle.code.specs.declared.code.Code.{Code}
 use Rattle.code.specs.declared.pair.Pair.{Pair}
 use Rattle.queue.specs.Number.{code_of, number_of}
 use Rattle.queue.specs.Queue.{Queued, queued, count, may_wait, may_be_held, admit, entered, pop}
-use Rattle.queue.specs.declared.count.CountAnswer.{CountAnswer}
-use Rattle.queue.specs.declared.count.CountAnswer.TheVariants as count_answer
-use Rattle.queue.specs.declared.count.Counted.{Counted}
-use Rattle.queue.specs.declared.pop.PopAnswer.{PopAnswer}
-use Rattle.queue.specs.declared.pop.PopAnswer.TheVariants as pop_answer
-use Rattle.queue.specs.declared.pop.Popped.{Popped}
-use Rattle.queue.specs.declared.push.PushAnswer.{PushAnswer}
-use Rattle.queue.specs.declared.push.PushAnswer.TheVariants as push_answer
-use Rattle.queue.specs.declared.push.Pushed.{Pushed}
-use Rattle.queue.specs.declared.ring.Held.{Held}
-use Rattle.queue.specs.declared.ring.Held.TheVariants as held
+use Rattle.queue.specs.declared.push.PushError.{PushError}
+use Rattle.queue.specs.declared.push.PushError.TheVariants as push_error
 use Rattle.queue.specs.declared.ring.Queue.{Queue}
+use Rattle.queue.specs.declared.well_formed.IllFormed.{IllFormed}
 
 -- the number and the code at a place, which wraps around at 64
 abbrev pub number_at : List ℕ → ℕ → ℕ
@@ -35,9 +27,9 @@ codes_from places at (suc n) = code_at_place places at ∷ codes_from places (at
 abbrev pub waiting_in : Queue → List Code
 waiting_in q = codes_from q.places q.start q.waiting
 
-abbrev pub held_in : Held → Option Code
-held_in held.Absent = None
-held_in (held.Of n) = Some (code_of n)
+abbrev pub held_in : Option ℕ → Option Code
+held_in None = None
+held_in (Some n) = Some (code_of n)
 
 -- the list that a ring stands for
 abbrev pub view : Queue → Queued
@@ -58,7 +50,7 @@ well_formed q =
     ltb q.start 64 && leb q.waiting 64 && held_fits (held_in q.held) && all_may_wait (waiting_in q)
 
 -- the clauses that are not met by every number: those of the parts beside the places
-abbrev pub formed_by : ℕ → ℕ → Held → Bool
+abbrev pub formed_by : ℕ → ℕ → Option ℕ → Bool
 formed_by start waiting held = ltb start 64 && leb waiting 64 && held_fits (held_in held)
 
 -- of any call: an ill-formed state is refused, 12, and comes back as it was
@@ -66,7 +58,7 @@ abbrev pub tested : {A : Type 0} → Queue → Outcome A × Queue → Outcome A 
 tested q done = cond (well_formed q) done (refused 12, q)
 
 abbrev pub fresh_ring : Queue
-fresh_ring = record { places = replicate 64 0; start = 0; waiting = 0; held = held.Absent }
+fresh_ring = record { places = replicate 64 0; start = 0; waiting = 0; held = None }
 
 -- a number, and so a code, stored at the place after the last; a code without a number is not stored
 abbrev pub stored_number : Queue → ℕ → Queue
@@ -92,9 +84,9 @@ push_ring q c = tested q (entered (admit c q.waiting) (stored q c) q)
 abbrev pub gone : Queue → ℕ
 gone q = length (waiting_in q) - length (pop (view q)).next.waiting
 
-abbrev pub held_as : ℕ → Option Code → Held
-held_as n None = held.Absent
-held_as n (Some c) = held.Of n
+abbrev pub held_as : ℕ → Option Code → Option ℕ
+held_as n None = None
+held_as n (Some c) = Some n
 
 abbrev pub left_in : Queue → Queue
 left_in q = record {
@@ -110,28 +102,31 @@ pop_ring q = tested q (answer (pop (view q)).pair, left_in q)
 unfoldable pub count_ring : Queue → Outcome ℕ × Queue
 count_ring q = tested q (answer (count (view q)), q)
 
--- the outcome of each answer
-abbrev pub push_answer_outcome : PushAnswer → Outcome Unit
-push_answer_outcome push_answer.Accepted = answer tt
-push_answer_outcome push_answer.UnknownByte = refused 2
-push_answer_outcome push_answer.NoSuchRow = refused 3
-push_answer_outcome push_answer.NotACommand = refused 18
-push_answer_outcome push_answer.Full = refused 7
-push_answer_outcome push_answer.IllFormed = refused 12
+-- the number of each refusal, and the outcome of each answer
+abbrev pub push_refusal : PushError → ℕ
+push_refusal push_error.UnknownByte = 2
+push_refusal push_error.NoSuchRow = 3
+push_refusal push_error.NotACommand = 18
+push_refusal push_error.Full = 7
+push_refusal push_error.IllFormed = 12
 
-abbrev pub push_outcome : Pushed → Outcome Unit × Queue
-push_outcome r = (push_answer_outcome r.answer, r.queue)
+abbrev pub push_answer_outcome : Result Unit PushError → Outcome Unit
+push_answer_outcome (Ok u) = answer u
+push_answer_outcome (Err e) = refused (push_refusal e)
 
-abbrev pub pop_answer_outcome : PopAnswer → Outcome Pair
-pop_answer_outcome (pop_answer.Next p) = answer p
-pop_answer_outcome pop_answer.IllFormed = refused 12
+abbrev pub push_outcome : Queue × Result Unit PushError → Outcome Unit × Queue
+push_outcome r = (push_answer_outcome r.1, r.0)
 
-abbrev pub pop_outcome : Popped → Outcome Pair × Queue
-pop_outcome r = (pop_answer_outcome r.answer, r.queue)
+abbrev pub pop_answer_outcome : Result Pair IllFormed → Outcome Pair
+pop_answer_outcome (Ok p) = answer p
+pop_answer_outcome (Err e) = refused 12
 
-abbrev pub count_answer_outcome : CountAnswer → Outcome ℕ
-count_answer_outcome (count_answer.Codes n) = answer n
-count_answer_outcome count_answer.IllFormed = refused 12
+abbrev pub pop_outcome : Queue × Result Pair IllFormed → Outcome Pair × Queue
+pop_outcome r = (pop_answer_outcome r.1, r.0)
 
-abbrev pub count_outcome : Counted → Outcome ℕ × Queue
-count_outcome r = (count_answer_outcome r.answer, r.queue)
+abbrev pub count_answer_outcome : Result ℕ IllFormed → Outcome ℕ
+count_answer_outcome (Ok n) = answer n
+count_answer_outcome (Err e) = refused 12
+
+abbrev pub count_outcome : Queue × Result ℕ IllFormed → Outcome ℕ × Queue
+count_outcome r = (count_answer_outcome r.1, r.0)

@@ -1,12 +1,11 @@
 -- What a pop does to the ring, in the port's own words: the pair that goes out, how many places are freed, and what is
 -- held afterwards, by the numbers at the first two places alone. `Ring.pop_ring` is defined without it.
+use Rattle.std.specs.Prelude.{Option, None}
 use Rattle.std.specs.Prelude.{ℕ, zero, suc, ◌+◌, ◌-◌, ◌%◌, List, [], ◌∷◌, map, get_or, length}
 use Rattle.queue.specs.Number.{code_of}
 use Rattle.queue.specs.Queue.{Pop, pop, pop_command, pop_two, queued}
 use Rattle.queue.specs.Ring.{held_as, held_in}
 use Rattle.queue.specs.declared.pop.Turn.{Turn}
-use Rattle.queue.specs.declared.ring.Held.{Held}
-use Rattle.queue.specs.declared.ring.Held.TheVariants as held
 use Rattle.queue.specs.declared.ring.Queue.{Queue}
 
 -- the first numbers of those that wait, two at most
@@ -21,13 +20,13 @@ turn_by numbers p =
     let freed = length numbers - length p.next.waiting in
     record { pair = p.pair; freed = freed; held = held_as (get_or numbers (freed - 1) 0) p.next.held }
 
-abbrev pub turn_of : ℕ → ℕ → ℕ → Held → Turn
+abbrev pub turn_of : ℕ → ℕ → ℕ → Option ℕ → Turn
 turn_of first second waiting held =
     let numbers = front first second waiting in
     turn_by numbers (pop (queued (map code_of numbers) (held_in held)))
 
 abbrev pub front_turn : ℕ → ℕ → ℕ → Turn
-front_turn first second waiting = turn_of first second waiting held.Absent
+front_turn first second waiting = turn_of first second waiting None
 
 -- a command, and a single code before another code
 abbrev pub command_turn : ℕ → Turn

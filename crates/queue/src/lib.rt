@@ -11,7 +11,7 @@ pub mod queueable;
 pub mod ring;
 pub mod well_formed;
 
-pub use count::{CountAnswer, Counted};
-pub use pop::{PopAnswer, Popped, Turn};
-pub use push::{Entry, PushAnswer, Pushed};
-pub use ring::{Held, Queue};
+pub use pop::Turn;
+pub use push::PushError;
+pub use ring::Queue;
+pub use well_formed::IllFormed;

@@ -8,15 +8,13 @@ ghost use Rattle.queue.specs.Queue.{byte_of, is_single, pair_of};
 
 use code::parity::add_parity;
 use code::write::on_line;
-use code::{Channel, CodeField, Field, Pair};
+use code::{Channel, Field, Pair};
 
 // The number of a command's two bytes, channel and field aside.
 pub(crate) fn bytes_number(bytes: Pair) -> u16
     ensures { result ≡ bytes_number bytes }
 {
-    let first = bytes.0 as u16;
-    let second = bytes.1 as u16;
-    first % 16 * 128 + second % 128
+    bytes.0 as u16 % 16 * 128 + bytes.1 as u16 % 128
 }
 
 // Whether a number stands for a single code.
@@ -42,13 +40,13 @@ fn second_in(number: u16) -> u8
 }
 
 // The field that a command names.
-fn field_in(number: u16) -> CodeField
+fn field_in(number: u16) -> Option<Field>
     ensures { result ≡ field_of_number number }
 {
     match number / 0x2000 {
-        1 => CodeField::Of(Field::ONE),
-        2 => CodeField::Of(Field::TWO),
-        _ => CodeField::Absent,
+        1 => Some(Field::ONE),
+        2 => Some(Field::TWO),
+        _ => None,
     }
 }
 
@@ -94,12 +92,5 @@ pub(crate) fn needs_backspace(number: u16) -> bool
     requires { number < 0x8000 }
     ensures { result ≡ needs_backspace (code_of number) }
 {
-    match number % 0x1000 / 16 {
-        0x0A => true,
-        0x12 => true,
-        0x13 => true,
-        0x1A => true,
-        0x1B => true,
-        _ => false,
-    }
+    matches!(number % 0x1000 / 16, 0x0A | 0x12 | 0x13 | 0x1A | 0x1B)
 }

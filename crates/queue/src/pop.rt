@@ -1,31 +1,19 @@
 // Taking the next pair for the line out of the queue.
-ghost use Rattle.std.specs.Prelude.{◌≡◌, ◌≤◌, ◌<◌};
-ghost use Rattle.queue.specs.Ring.{pop_outcome, pop_ring};
-ghost use Rattle.queue.specs.Turn.{command_turn, freeing, front_turn, single_turn, turn_of};
+ghost use Rattle.std.specs.Prelude.{◌≡◌, ◌≤◌, ◌<◌, ◌+◌};
+ghost use Rattle.queue.specs.Ring.{number_at, pop_outcome, pop_ring};
+ghost use Rattle.queue.specs.Turn.{command_turn, freeing, single_turn, turn_of};
 
 use crate::number::{byte_of, is_single, needs_backspace, pair_of};
-use crate::ring::{Held, Queue};
+use crate::ring::Queue;
+use crate::well_formed::IllFormed;
 use code::Pair;
-
-// `IllFormed` is refusal 12.
-#[derive(Clone, Copy)]
-pub enum PopAnswer {
-    Next(Pair),
-    IllFormed,
-}
-
-#[derive(Clone, Copy)]
-pub struct Popped {
-    pub queue: Queue,
-    pub answer: PopAnswer,
-}
 
 // What a pop does: the pair that goes out, how many places it frees, and what is held afterwards.
 #[derive(Clone, Copy)]
 pub struct Turn {
     pub pair: Pair,
     pub freed: usize,
-    pub held: Held,
+    pub held: Option<u16>,
 }
 
 // A command with no single code before it. One that needs a backspace is held, and a space goes out first: an extended
@@ -38,13 +26,13 @@ pub(crate) fn command_turn(command: u16) -> Turn
         return Turn {
             pair: Pair(0x20, 0x80),
             freed: 1,
-            held: Held::Of(command),
+            held: Some(command),
         };
     }
     Turn {
         pair: pair_of(command),
         freed: 1,
-        held: Held::Absent,
+        held: None,
     }
 }
 
@@ -59,104 +47,74 @@ pub(crate) fn single_turn(first: u16, second: u16) -> Turn
         return Turn {
             pair: Pair(sent, byte_of(second)),
             freed: 2,
-            held: Held::Absent,
+            held: None,
         };
     }
-    if needs_backspace(second) {
-        return Turn {
-            pair: Pair(sent, 0x20),
-            freed: 2,
-            held: Held::Of(second),
-        };
-    }
+    let beside = if needs_backspace(second) { 0x20 } else { 0x80 };
     Turn {
-        pair: Pair(sent, 0x80),
+        pair: Pair(sent, beside),
         freed: 2,
-        held: Held::Of(second),
+        held: Some(second),
     }
-}
-
-// The turn of a queue in which a code waits and none is held: by the first code, and by the second where another waits.
-#[tactic(auto, using(crate::proofs::Numbered::single_from, crate::proofs::Numbered::command_below, crate::proofs::Turns::command_turns, crate::proofs::Turns::last_turns, crate::proofs::Turns::single_turns))]
-pub(crate) fn front_turn(first: u16, second: u16, waiting: usize) -> Turn
-    requires { 0 < waiting }
-    ensures { result ≡ front_turn first second waiting }
-{
-    if !is_single(first) {
-        return command_turn(first);
-    }
-    if waiting == 1 {
-        return Turn {
-            pair: Pair(byte_of(first), 0x80),
-            freed: 1,
-            held: Held::Absent,
-        };
-    }
-    single_turn(first, second)
-}
-
-// The turn of a queue by the numbers at its first two places, how many wait and what is held: the held code goes out
-// first of all, and padding where nothing waits.
-#[tactic(auto, using(crate::proofs::Turns::held_turn, crate::proofs::Turns::empty_turn))]
-pub fn turn_of(first: u16, second: u16, waiting: usize, held: Held) -> Turn
-    ensures { result ≡ turn_of first second waiting held }
-{
-    if let Held::Of(number) = held {
-        return Turn {
-            pair: pair_of(number),
-            freed: 0,
-            held: Held::Absent,
-        };
-    }
-    if waiting == 0 {
-        return Turn {
-            pair: Pair(0x80, 0x80),
-            freed: 0,
-            held: Held::Absent,
-        };
-    }
-    front_turn(first, second, waiting)
 }
 
 impl Queue {
+    // What a pop would do: the held code goes out first of all, padding where nothing waits, and else the first code,
+    // with the second where it may share the pair.
+    #[tactic(auto, using(crate::proofs::Numbered::single_from, crate::proofs::Numbered::command_below, crate::proofs::Turns::held_turn, crate::proofs::Turns::empty_turn, crate::proofs::Turns::command_turns, crate::proofs::Turns::last_turns, crate::proofs::Turns::single_turns))]
+    pub fn turn(&self) -> Turn
+        ensures { result ≡ turn_of (number_at self.now.places self.now.start) (number_at self.now.places (self.now.start + 1)) self.now.waiting self.now.held }
+    {
+        if let Some(number) = self.held {
+            return Turn {
+                pair: pair_of(number),
+                freed: 0,
+                held: None,
+            };
+        }
+        if self.waiting == 0 {
+            return Turn {
+                pair: Pair(0x80, 0x80),
+                freed: 0,
+                held: None,
+            };
+        }
+        let start = self.start % 64;
+        let first = self.places[start];
+        if !is_single(first) {
+            return command_turn(first);
+        }
+        if self.waiting == 1 {
+            return Turn {
+                pair: Pair(byte_of(first), 0x80),
+                freed: 1,
+                held: None,
+            };
+        }
+        single_turn(first, self.places[(start + 1) % 64])
+    }
+
     // The queue after a turn: the places of the codes that left are free again.
     pub(crate) fn freeing(self, turn: Turn) -> Queue
         requires { (self.start < 64) × (self.waiting ≤ 64) × (turn.freed ≤ self.waiting) }
         ensures { result ≡ freeing self turn }
     {
-        let start = self.start;
-        let waiting = self.waiting;
-        let places = self.places;
-        let freed = turn.freed;
-        let held = turn.held;
         Queue {
-            places: places,
-            start: (start + freed) % 64,
-            waiting: waiting - freed,
-            held: held,
+            start: (self.start + turn.freed) % 64,
+            waiting: self.waiting - turn.freed,
+            held: turn.held,
+            ..self
         }
     }
 
     // The next pair for the line; 80 80 where nothing waits.
-    pub fn pop(self) -> Popped
+    pub fn pop(self) -> (Queue, Result<Pair, IllFormed>)
         ensures { pop_outcome result ≡ pop_ring self }
     {
         if !self.is_well_formed() {
-            return Popped {
-                answer: PopAnswer::IllFormed,
-                queue: self,
-            };
+            return (self, Err(IllFormed));
         }
-        let start = self.start;
-        let waiting = self.waiting;
-        let held = self.held;
-        let first = self.places[start];
-        let second = self.places[(start + 1) % 64];
-        let turn = turn_of(first, second, waiting, held);
-        let pair = turn.pair;
-        Popped {
-            answer: PopAnswer::Next(pair),
-            queue: self.freeing(turn),
-        }
+        let turn = self.turn();
+        (self.freeing(turn), Ok(turn.pair))
     }
 }

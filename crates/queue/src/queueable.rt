@@ -1,29 +1,36 @@
 // Which codes may be queued, and the number of each that may.
 ghost use Rattle.std.specs.Prelude.{◌≡◌, ◌≤◌};
-ghost use Rattle.queue.specs.Entry.{verdict_outcome};
+ghost use Rattle.queue.specs.Entry.{number_outcome, verdict_outcome};
 ghost use Rattle.queue.specs.Number.{field_number, numbered, numbered_control, numbered_unknown, whose_number};
+ghost use Rattle.queue.specs.declared.queueable.QueueableError.TheVariants.{NoSuchRow as no_such_row};
 
 use crate::number::bytes_number;
-use code::{Code, CodeField, Control, ControlCode, Pair, RowBytes};
+use code::{Code, Control, ControlCode, Field, NoSuchRow, Pair};
 
-// A code's number, none for NUL, which is not stored, or why the code may not be queued: `UnknownByte` is refusal 2,
-// `NoSuchRow` refusal 3, `NotACommand` refusal 18.
-#[derive(Clone, Copy)]
-pub(crate) enum Verdict {
-    Nul,
-    Passes(u16),
+// Why a code may not be queued: `UnknownByte` is refusal 2, `NoSuchRow` refusal 3, `NotACommand` refusal 18.
+#[derive(Clone, Copy, Debug, PartialEq, Eq)]
+pub(crate) enum QueueableError {
     UnknownByte,
     NoSuchRow,
     NotACommand,
 }
 
+impl From<NoSuchRow> for QueueableError {
+    ghost from_gives = { λ _ e. e ≡ no_such_row };
+
+    fn from(_e: NoSuchRow) -> QueueableError {
+        QueueableError::NoSuchRow
+    }
+}
+
 // The part of a command's number that its field makes.
-fn field_number(field: CodeField) -> u16
+fn field_number(field: Option<Field>) -> u16
     ensures { result ≡ field_number field }
 {
     match field {
-        CodeField::Absent => 0,
-        CodeField::Of(named) => { if named.0 { 0x2000 } else { 0x4000 } }
+        None => 0,
+        Some(Field(true)) => 0x2000,
+        Some(Field(false)) => 0x4000,
     }
 }
 
@@ -31,67 +38,55 @@ fn field_number(field: CodeField) -> u16
 fn whose_number(code: ControlCode) -> u16
     ensures { result ≡ whose_number code }
 {
-    let field = code.field;
-    let channel = code.channel;
-    let number = field_number(field);
-    if channel.0 { number } else { number + 0x1000 }
+    let number = field_number(code.field);
+    if code.channel.0 {
+        number
+    } else {
+        number + 0x1000
+    }
 }
 
 // An `Unknown` of two bytes. Where its first byte is not 10 to 1F it is text dressed as a command.
 #[tactic(auto, using(crate::proofs::Verdicts::dressed, crate::proofs::Verdicts::passes))]
-fn number_unknown(whose: u16, first: u8, second: u8) -> Verdict
+fn number_unknown(whose: u16, first: u8, second: u8) -> Result<u16, QueueableError>
     requires { whose ≤ 0x5000 }
-    ensures { verdict_outcome result ≡ numbered_unknown whose first second }
+    ensures { number_outcome result ≡ numbered_unknown whose first second }
 {
-    if 0x80 <= first {
-        return Verdict::UnknownByte;
-    }
-    if 0x80 <= second {
-        return Verdict::UnknownByte;
+    if 0x80 <= first || 0x80 <= second {
+        return Err(QueueableError::UnknownByte);
     }
     if first / 16 != 1 {
-        return Verdict::NotACommand;
+        return Err(QueueableError::NotACommand);
     }
-    Verdict::Passes(whose + 0x800 + bytes_number(Pair(first, second)))
+    Ok(whose + 0x800 + bytes_number(Pair(first, second)))
 }
 
 // A control. Each kind by itself and not by `Control::bytes`: the compiler then keeps the control in registers.
 #[tactic(auto, using(crate::proofs::Verdicts::as_tested), unfolding(code::specs::Write::control_bytes))]
-fn number_control(whose: u16, control: Control) -> Verdict
+fn number_control(whose: u16, control: Control) -> Result<u16, QueueableError>
     requires { whose ≤ 0x5000 }
-    ensures { verdict_outcome result ≡ numbered_control whose control }
+    ensures { number_outcome result ≡ numbered_control whose control }
 {
     match control {
-        Control::MidRow(code) => Verdict::Passes(whose + bytes_number(code.bytes())),
-        Control::Symbol(symbol) => Verdict::Passes(whose + bytes_number(symbol.bytes())),
-        Control::Command(command) => Verdict::Passes(whose + bytes_number(command.bytes())),
-        Control::Tab(tab) => Verdict::Passes(whose + bytes_number(tab.bytes())),
-        Control::Preamble(preamble) => match preamble.bytes() {
-            RowBytes::Are(bytes) => Verdict::Passes(whose + bytes_number(bytes)),
-            RowBytes::NoSuchRow => Verdict::NoSuchRow,
-        },
+        Control::MidRow(code) => Ok(whose + bytes_number(code.bytes())),
+        Control::Symbol(symbol) => Ok(whose + bytes_number(symbol.bytes())),
+        Control::Command(command) => Ok(whose + bytes_number(command.bytes())),
+        Control::Tab(tab) => Ok(whose + bytes_number(tab.bytes())),
+        Control::Preamble(preamble) => Ok(whose + bytes_number(preamble.bytes()?)),
         Control::Unknown(first, second) => number_unknown(whose, first, second),
     }
 }
 
-// The number of a code that may be queued.
-#[tactic(auto, using(crate::proofs::Verdicts::by_control, crate::proofs::Verdicts::nul_passes))]
-pub(crate) fn numbered(code: Code) -> Verdict
+// The number of a code that may be queued; none for NUL, which is not stored.
+#[tactic(auto, using(crate::proofs::Verdicts::by_control, crate::proofs::Verdicts::nul_passes, crate::proofs::Verdicts::letter_passes, crate::proofs::Verdicts::byte_passes, crate::proofs::Verdicts::byte_refused))]
+pub(crate) fn numbered(code: Code) -> Result<Option<u16>, QueueableError>
     ensures { verdict_outcome result ≡ numbered code }
 {
     match code {
-        Code::Nul => Verdict::Nul,
-        Code::Control(command) => {
-            let control = command.control;
-            number_control(whose_number(command), control)
-        }
-        Code::Letter(letter) => Verdict::Passes(0x8020 + letter.place() as u16),
-        Code::Unknown(byte) => {
-            if byte < 0x80 {
-                Verdict::Passes(0x8080 + byte as u16)
-            } else {
-                Verdict::UnknownByte
-            }
-        }
+        Code::Nul => Ok(None),
+        Code::Control(command) => number_control(whose_number(command), command.control).map(Some),
+        Code::Letter(letter) => Ok(Some(0x8020 + letter.place() as u16)),
+        Code::Unknown(byte) if byte < 0x80 => Ok(Some(0x8080 + byte as u16)),
+        Code::Unknown(_) => Err(QueueableError::UnknownByte),
     }
 }

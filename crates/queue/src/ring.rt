@@ -3,20 +3,14 @@
 ghost use Rattle.std.specs.Prelude.{◌≡◌};
 ghost use Rattle.queue.specs.Ring.{fresh_ring};
 
-// A command that the next pop sends, since the pair before it carried the single code or space that precedes it.
-#[derive(Clone, Copy)]
-pub enum Held {
-    Absent,
-    Of(u16),
-}
-
-// The waiting codes stand from `start` on, and wrap around to place 0 at the end.
+// The waiting codes stand from `start` on, and wrap around to place 0 at the end. The held code is a command that the
+// next pop sends, since the pair before it carried the single code or space that precedes it.
 #[derive(Clone, Copy)]
 pub struct Queue {
     pub places: [u16; 64],
     pub start: usize,
     pub waiting: usize,
-    pub held: Held,
+    pub held: Option<u16>,
 }
 
 impl Queue {
@@ -28,7 +22,7 @@ impl Queue {
             places: [0; 64],
             start: 0,
             waiting: 0,
-            held: Held::Absent,
+            held: None,
         }
     }
 

@@ -1,16 +1,10 @@
 -- A packet of triplets, from 02: "Refusals: 16 marker bits wrong, 17 length no multiple of 3, either for the whole packet;
 -- 17 first." What a packet's bytes are as triplets, and the bytes of triplets.
-use Rattle.std.specs.Prelude.{ℕ, ◌%◌, Bool, ◌&&◌, cond, true, List, [], ◌∷◌, eqb, length}
-use Rattle.std.specs.Prelude.{Option, None, Some}
-use Rattle.std.proofs.Math.ListN.{get_elem?}
+use Rattle.std.specs.Prelude.{ℕ, ◌%◌, Bool, ◌&&◌, cond, true, List, [], ◌∷◌, Option, Result, Ok, Err, eqb, length, slice_get}
 use Rattle.code.specs.Outcome.{Outcome, answer, refused}
 use Rattle.triplet.specs.Triplet.{bytes_of, has_marker, triplet_of}
-use Rattle.triplet.specs.declared.packet.AtAnswer.{AtAnswer}
-use Rattle.triplet.specs.declared.packet.AtAnswer.TheVariants as at_answer
-use Rattle.triplet.specs.declared.packet.CountAnswer.{CountAnswer}
-use Rattle.triplet.specs.declared.packet.CountAnswer.TheVariants as count_answer
-use Rattle.triplet.specs.declared.packet.Judged.{Judged}
-use Rattle.triplet.specs.declared.packet.Judged.TheVariants as judged_answer
+use Rattle.triplet.specs.declared.packet.PacketError.{PacketError}
+use Rattle.triplet.specs.declared.packet.PacketError.TheVariants.{NotWhole, WrongMarker}
 use Rattle.triplet.specs.declared.triplet.Triplet.{Triplet}
 
 -- the first byte of each whole triplet has the marker
@@ -50,20 +44,21 @@ count_of bytes = of_read length (read_packet bytes)
 
 -- the one at a place, or none
 abbrev pub at_place : List ℕ → ℕ → Outcome (Option Triplet)
-at_place bytes place = of_read (λ (ts : List Triplet). get_elem? ts place) (read_packet bytes)
+at_place bytes place = of_read (λ (ts : List Triplet). slice_get ts place) (read_packet bytes)
 
-abbrev pub count_outcome : CountAnswer → Outcome ℕ
-count_outcome (count_answer.Triplets n) = answer n
-count_outcome count_answer.NotWhole = refused 17
-count_outcome count_answer.WrongMarker = refused 16
+-- the number of what is wrong with a packet
+abbrev pub packet_refusal : PacketError → ℕ
+packet_refusal NotWhole = 17
+packet_refusal WrongMarker = 16
 
-abbrev pub at_outcome : AtAnswer → Outcome (Option Triplet)
-at_outcome (at_answer.Is t) = answer (Some t)
-at_outcome at_answer.PastEnd = answer None
-at_outcome at_answer.NotWhole = refused 17
-at_outcome at_answer.WrongMarker = refused 16
+abbrev pub count_outcome : Result ℕ PacketError → Outcome ℕ
+count_outcome (Ok n) = answer n
+count_outcome (Err e) = refused (packet_refusal e)
 
-abbrev pub judged_outcome : Judged → Outcome Unit
-judged_outcome judged_answer.Right = answer tt
-judged_outcome judged_answer.NotWhole = refused 17
-judged_outcome judged_answer.WrongMarker = refused 16
+abbrev pub at_outcome : Result (Option Triplet) PacketError → Outcome (Option Triplet)
+at_outcome (Ok t) = answer t
+at_outcome (Err e) = refused (packet_refusal e)
+
+abbrev pub judged_outcome : Result Unit PacketError → Outcome Unit
+judged_outcome (Ok right) = answer tt
+judged_outcome (Err e) = refused (packet_refusal e)

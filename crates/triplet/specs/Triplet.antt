@@ -1,17 +1,16 @@
 -- A triplet, from ANSI/CTA-708 as 02 has it: "five bits of one, a valid bit, a two-bit type, two data bytes, most significant
 -- bit first. Type 0 is field one, type 1 field two. Types 2 and 3, and triplets with the valid bit clear, pass through as
 -- found." Both ways: what three bytes are, and the three bytes of a triplet.
-use Rattle.std.specs.Prelude.{ℕ, ◌%◌, ◌*◌, ◌+◌, ◌/◌, Bool, cond, [], ◌∷◌, eqb, get_or}
+use Rattle.std.specs.Prelude.{ℕ, ◌%◌, ◌*◌, ◌+◌, ◌/◌, Bool, cond, [], ◌∷◌, Result, Ok, Err, eqb, get_or}
 use Rattle.code.specs.Channel.{field_one, field_two}
 use Rattle.code.specs.Outcome.{Outcome, answer, refused}
 use Rattle.code.specs.Pair.{pair}
-use Rattle.triplet.specs.declared.triplet.FromBytes.{FromBytes}
-use Rattle.triplet.specs.declared.triplet.FromBytes.TheVariants as from_bytes
 use Rattle.triplet.specs.declared.triplet.Passing.{Passing}
 use Rattle.triplet.specs.declared.triplet.Passing.TheVariants.{Clear0, Clear1, Clear2, Clear3, Type2, Type3}
 use Rattle.triplet.specs.declared.triplet.Triplet.{Triplet}
 use Rattle.triplet.specs.declared.triplet.Triplet.TheVariants.{OfField, PassesThrough}
 use Rattle.triplet.specs.declared.triplet.TripletBytes.{TripletBytes}
+use Rattle.triplet.specs.declared.triplet.WrongMarker.{WrongMarker}
 
 -- the first byte, most significant bit first: five bits of one, the valid bit, two bits of type
 abbrev pub marker_bits : ℕ → ℕ
@@ -66,6 +65,6 @@ abbrev pub bytes_of : Triplet → TripletBytes
 bytes_of (OfField f p) = three_bytes (first_byte 1 (cond f.0 0 1)) p.0 p.1
 bytes_of (PassesThrough k b c) = three_bytes (passing_byte k) b c
 
-abbrev pub from_bytes_outcome : FromBytes → Outcome Triplet
-from_bytes_outcome (from_bytes.Is t) = answer t
-from_bytes_outcome from_bytes.WrongMarker = refused 16
+abbrev pub from_bytes_outcome : Result Triplet WrongMarker → Outcome Triplet
+from_bytes_outcome (Ok t) = answer t
+from_bytes_outcome (Err e) = refused 16

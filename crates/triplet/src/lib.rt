@@ -7,6 +7,6 @@ pub mod packet;
 pub mod triplet;
 pub mod writer;
 
-pub use packet::{AtAnswer, CountAnswer};
-pub use triplet::{FromBytes, Passing, Triplet, TripletBytes};
-pub use writer::PutAnswer;
+pub use packet::PacketError;
+pub use triplet::{Passing, Triplet, TripletBytes, WrongMarker};
+pub use writer::PutError;
