@@ -1,19 +1,18 @@
 -- When a pair is refused, by which number, and what it leaves, in the port's own words, for the laws. 1 and 13 leave everything as
 -- it was; 14 and 15 drop the packet of the class that runs, and leave the rest.
 use Rattle.std.specs.Prelude.{ℕ, ◌<◌, length, false, ◌++◌, ◌≡◌}
-use Rattle.std.specs.Prelude.{None, Some}
-use Rattle.code.specs.Outcome.{Outcome, answer, refused}
+use Rattle.std.specs.Prelude.{Option, None, Some}
+use Rattle.code.specs.Outcome.{answer, refused}
 use Rattle.code.specs.Read.{is_odd_pair}
 use Rattle.code.specs.declared.pair.Pair.{Pair}
-use Rattle.extended.specs.Extended.{Reader, Report, is_type, packet, with_packet}
+use Rattle.extended.specs.Extended.{Reader, is_type, with_packet}
 use Rattle.extended.specs.Packet.{Packet, content_bytes, is_right_sum, most_contents}
-use Rattle.extended.specs.Reading.{Is, first, is_refused, second}
-use Rattle.extended.specs.Reports.{is_packet}
-use Rattle.extended.specs.State.{Step, absent_packet, contents_of, gives, set_packet}
+use Rattle.extended.specs.Reading.{Is, first, second}
+use Rattle.extended.specs.State.{Step, absent_packet, set_packet}
 use Rattle.extended.specs.declared.class.Class.{Class}
-use Rattle.extended.specs.declared.packet.Contents.{Contents}
 use Rattle.extended.specs.declared.part.Part.TheVariants as part
 use Rattle.extended.specs.declared.state.ExtendedState.{ExtendedState}
+use Rattle.extended.specs.declared.state.Given.{Given}
 use Rattle.extended.specs.declared.state.Running.TheVariants as running
 
 pub data Leaves (s : Reader) (p : Pair) : ℕ → Reader → Type 0 where
@@ -24,11 +23,10 @@ pub data Leaves (s : Reader) (p : Pair) : ℕ → Reader → Type 0 where
   too_long : (c : Class) (k : Packet) → Is part.Other p → s.running ≡ running.Extended c → s.packets c ≡ Some k → most_contents < length (k.contents ++ content_bytes (first p) (second p)) → Leaves s p 14 (with_packet s c None)
   of_wrong_sum : (c : Class) (k : Packet) → Is part.End p → s.running ≡ running.Extended c → s.packets c ≡ Some k → is_right_sum c k.packet_type k.contents (second p) ≡ false → Leaves s p 15 (with_packet s c None)
 
--- The same of the record. Beside a packet that is reported stand its contents, and beside every other answer none.
+-- The same of the record. A pair that is not refused leaves what `step` says.
 pub data LeavesRecord (s : ExtendedState) : Step → Type 0 where
-  no_packet : (o : Outcome Report) (next : ExtendedState) → is_refused o ≡ false → is_packet o ≡ false → LeavesRecord s (gives o next)
-  a_packet : (c : Class) (t : ℕ) (k : Contents) (next : ExtendedState) → LeavesRecord s (answer (packet c t (contents_of k)), k, next)
-  by_1 : LeavesRecord s (gives (refused 1) s)
-  by_13 : LeavesRecord s (gives (refused 13) s)
-  by_14 : (c : Class) → s.running ≡ running.Extended c → LeavesRecord s (gives (refused 14) (set_packet s c absent_packet))
-  by_15 : (c : Class) → s.running ≡ running.Extended c → LeavesRecord s (gives (refused 15) (set_packet s c absent_packet))
+  taken : (g : Option Given) (next : ExtendedState) → LeavesRecord s (next, answer g)
+  by_1 : LeavesRecord s (s, refused 1)
+  by_13 : LeavesRecord s (s, refused 13)
+  by_14 : (c : Class) → s.running ≡ running.Extended c → LeavesRecord s (set_packet s c absent_packet, refused 14)
+  by_15 : (c : Class) → s.running ≡ running.Extended c → LeavesRecord s (set_packet s c absent_packet, refused 15)

@@ -5,7 +5,7 @@ use Rattle.code.specs.Outcome.{Outcome}
 use Rattle.code.specs.declared.pair.Pair.{Pair}
 use Rattle.extended.specs.Extended.{Report}
 use Rattle.extended.specs.Packet.{most_contents}
-use Rattle.extended.specs.State.{packet_at, step}
+use Rattle.extended.specs.State.{packet_at, report_of, step}
 use Rattle.extended.specs.declared.class.Class.{Class}
 use Rattle.extended.specs.declared.state.ExtendedState.{ExtendedState}
 
@@ -16,8 +16,8 @@ pub record Whole (s : ExtendedState) : Type 0 where
 -- what each pair gives, and the record after all of them
 abbrev pub state_answers : ExtendedState → List Pair → List (Outcome Report)
 state_answers s [] = []
-state_answers s (p ∷ ps) = (step s p).0 ∷ state_answers (step s p).2 ps
+state_answers s (p ∷ ps) = report_of (step s p).1 ∷ state_answers (step s p).0 ps
 
 abbrev pub state_after : ExtendedState → List Pair → ExtendedState
 state_after s [] = s
-state_after s (p ∷ ps) = state_after (step s p).2 ps
+state_after s (p ∷ ps) = state_after (step s p).0 ps

@@ -7,7 +7,6 @@ use Rattle.code.specs.Characters.{points}
 use Rattle.code.specs.Outcome.{Outcome, answer, refused}
 use Rattle.code.specs.Pair.{pair}
 use Rattle.code.specs.Parity.{with_parity}
-use Rattle.code.specs.declared.character.Character.TheVariants as character
 use Rattle.code.specs.declared.pair.Pair.{Pair}
 use Rattle.event.specs.declared.event.Cea608.TheVariants as cea608
 use Rattle.event.specs.declared.mode.Mode.TheVariants.{RollUp2}
@@ -37,7 +36,7 @@ abbrev hi : Pair
 hi = sent 0x48 0x69
 
 abbrev says_hi : Outcome Report
-says_hi = answer (event (cea608.Text (record { needs_backspace = false; char1 = character.Point 0x48; char2 = character.Point 0x69; channel = channel_one })))
+says_hi = answer (event (cea608.Text (record { needs_backspace = false; char1 = Some 0x48; char2 = Some 0x69; channel = channel_one })))
 
 -- the programme's title: current class, type 03; and the network's name: channel information, type 01
 abbrev title : Pair

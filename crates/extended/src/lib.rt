@@ -9,5 +9,5 @@ pub mod part;
 pub mod state;
 
 pub use class::Class;
-pub use packet::{Contents, PacketType, Unfinished};
-pub use state::{ExtendedState, Given, Received, Running};
+pub use packet::{Contents, Packet, Unfinished};
+pub use state::{ExtendedError, ExtendedState, Given, Running};

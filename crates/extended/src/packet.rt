@@ -1,7 +1,7 @@
 // A packet that is not finished: its type, and its contents so far.
 ghost use Rattle.std.specs.Prelude.{true, ◌≡◌, ◌%◌, length};
 ghost use Rattle.extended.specs.Packet.{content_bytes, is_right_sum, sum_of, unless_filler};
-ghost use Rattle.extended.specs.State.{absent_packet, added_all, begun, contents_of, cut, has_room, is_of, no_contents};
+ghost use Rattle.extended.specs.State.{absent_packet, added_all, begun, contents_of, cut, has_room, no_contents};
 
 use crate::class::Class;
 
@@ -15,28 +15,18 @@ pub struct Contents {
     pub bytes: [u8; MOST_CONTENTS],
 }
 
-// The second byte of a packet's start.
-#[derive(Clone, Copy)]
-pub enum PacketType {
-    Absent,
-    Known(u8),
-}
-
-// Where the type is absent there is no packet.
+// The type is the second byte of the packet's start; where it is absent there is no packet.
 #[derive(Clone, Copy)]
 pub struct Unfinished {
-    pub packet_type: PacketType,
+    pub packet_type: Option<u8>,
     pub contents: Contents,
 }
 
 // How many content bytes a byte is: filler is none.
-pub(crate) fn count_of(byte: u8) -> u8
+pub(crate) fn count_of(byte: u8) -> usize
     ensures { result ≡ length (unless_filler byte) }
 {
-    if byte == 0 {
-        return 0;
-    }
-    1
+    if byte == 0 { 0 } else { 1 }
 }
 
 impl Contents {
@@ -54,13 +44,9 @@ impl Contents {
     pub(crate) fn cut(self) -> Contents
         ensures { result ≡ cut self }
     {
-        let bytes = self.bytes;
-        if (self.length as usize) < MOST_CONTENTS {
-            return self;
-        }
         Contents {
-            length: 32,
-            bytes: bytes,
+            length: self.length.min(MOST_CONTENTS as u8),
+            ..self
         }
     }
 
@@ -68,8 +54,7 @@ impl Contents {
     pub(crate) fn has_room(self, first: u8, second: u8) -> bool
         ensures { result ≡ has_room self (content_bytes first second) }
     {
-        let more = count_of(first) + count_of(second);
-        self.length as usize + more as usize <= MOST_CONTENTS
+        self.length as usize + count_of(first) + count_of(second) <= MOST_CONTENTS
     }
 
     // With one byte more, unless it is filler.
@@ -80,12 +65,11 @@ impl Contents {
         if byte == 0 {
             return self;
         }
-        let at = self.length as usize;
         let mut bytes = self.bytes;
-        bytes[at] = byte;
+        bytes[self.length as usize] = byte;
         Contents {
             length: self.length + 1,
-            bytes: bytes,
+            bytes,
         }
     }
 
@@ -94,13 +78,10 @@ impl Contents {
     pub(crate) fn sum(self) -> u8
         ensures { result ≡ sum_of (contents_of self) % 128 }
     {
-        let bytes = self.bytes;
-        let length = self.length as usize;
-        let mut sum: u8 = 0;
-        let mut i: usize = 0;
-        while i < MOST_CONTENTS && i < length {
-            sum = (sum + bytes[i] % 128) % 128;
-            i += 1;
+        let count = MOST_CONTENTS.min(self.length as usize);
+        let mut sum = 0;
+        for byte in &self.bytes[..count] {
+            sum = (sum + byte % 128) % 128;
         }
         sum
     }
@@ -112,7 +93,7 @@ impl Unfinished {
         ensures { result ≡ absent_packet }
     {
         Unfinished {
-            packet_type: PacketType::Absent,
+            packet_type: None,
             contents: Contents::new(),
         }
     }
@@ -122,28 +103,30 @@ impl Unfinished {
         ensures { result ≡ begun packet_type }
     {
         Unfinished {
-            packet_type: PacketType::Known(packet_type),
+            packet_type: Some(packet_type),
             contents: Contents::new(),
-        }
-    }
-
-    // Whether there is a packet, and of this type.
-    pub(crate) fn is_of(self, packet_type: u8) -> bool
-        ensures { result ≡ is_of packet_type self }
-    {
-        let own = self.packet_type;
-        match own {
-            PacketType::Absent => false,
-            PacketType::Known(known) => known == packet_type,
         }
     }
 }
 
-// Whether the bytes of a packet add up to 0 modulo 128.
-pub(crate) fn is_right_sum(class: Class, packet_type: u8, contents: Contents, sum: u8) -> bool
-    ensures { result ≡ is_right_sum class packet_type (contents_of contents) sum }
-{
-    let start = class.start_byte();
-    let all = start as u32 + packet_type as u32 + contents.sum() as u32 + 0x0F + sum as u32;
-    all % 128 == 0
+// A packet that is finished.
+#[derive(Clone, Copy)]
+pub struct Packet {
+    pub class: Class,
+    pub packet_type: u8,
+    pub contents: Contents,
+}
+
+impl Packet {
+    // Whether its bytes and this sum add up to 0 modulo 128.
+    pub(crate) fn is_right_sum(self, sum: u8) -> bool
+        ensures { result ≡ is_right_sum self.class self.packet_type (contents_of self.contents) sum }
+    {
+        let all = self.class.start_byte() as u32
+            + self.packet_type as u32
+            + self.contents.sum() as u32
+            + 0x0F
+            + sum as u32;
+        all % 128 == 0
+    }
 }

@@ -19,7 +19,6 @@ pub(crate) fn part_of(first: u8) -> Part
     ensures { result ≡ part_of first }
 {
     match first {
-        0x00 => Part::Other,
         0x01 => Part::Start(Class::Current),
         0x02 => Part::Continuation(Class::Current),
         0x03 => Part::Start(Class::Future),
