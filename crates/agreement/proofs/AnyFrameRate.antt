@@ -2,6 +2,7 @@
 -- no test for repeats; so what holds of the padded pairs (`Agreement.odd_pairs_agree`) holds of the queue's. And a case:
 -- padding after two copies of a command, one of which is corrupted.
 -- Assumes nothing.
+use Rattle.std.specs.Prelude.{Some}
 use mathlib.Core.Bool.{Bool, true, false, cond}
 use mathlib.Core.List.{List, [], ◌∷◌}
 use Rattle.std.specs.Prelude.{Option}
@@ -27,7 +28,6 @@ use Rattle.receiver.specs.Reading.{after_once, answers, events, once, read_once}
 use Rattle.receiver.specs.Receiver.{after_reading, field_after, forgotten, fresh, heard_codes, heard_text, state, step, Stepped, text_for}
 use Rattle.receiver.specs.declared.state.Cea608State.{Cea608State}
 use Rattle.receiver.specs.declared.state.LastChannel.{LastChannel}
-use Rattle.receiver.specs.declared.state.LastPair.TheVariants as last
 use Rattle.sender.proofs.Refines.{fresh_good}
 use Rattle.sender.specs.Calls.{Call, pushing, draining}
 use Rattle.sender.specs.Drain.{drain_sender}
@@ -82,7 +82,7 @@ module _ (p : Pair) (ps : List Pair) (go : (s t : Cea608State) → Same s t → 
   padding_first : (s t : Cea608State) → Same s t → ReadOnceAlike s (padding ∷ ps) t (words ps)
   padding_first s t same =
       rw (padding_once s)
-      (go (state (last.Was padding) s.last_channel s.last_received_field) t (record { channel = same.channel; field = same.field }))
+      (go (state (Some padding) s.last_channel s.last_received_field) t (record { channel = same.channel; field = same.field }))
 
   word_first : (s t : Cea608State) → Same s t → ReadOnceAlike s (p ∷ ps) t (p ∷ words ps)
   word_first s t same =

@@ -23,8 +23,6 @@ use Rattle.receiver.specs.Reading.{after, after_once, answers, events, once, rea
 use Rattle.receiver.specs.Receiver.{acts, field_after, forgotten, heard_text, is_last, step, text_for}
 use Rattle.receiver.specs.declared.state.Cea608State.{Cea608State}
 use Rattle.receiver.specs.declared.state.LastChannel.{LastChannel}
-use Rattle.receiver.specs.declared.state.LastPair.{LastPair}
-use Rattle.receiver.specs.declared.state.LastPair.TheVariants as last
 use Rattle.agreement.proofs.OneByOne.{same_is_equal}
 use Rattle.code.proofs.SamePair.{same_itself}
 use Rattle.agreement.specs.Doubled.{doubled}
@@ -42,12 +40,12 @@ pub record Agrees (s t : Cea608State) (arrived ps : List Pair) : Type 0 where
   pub ends_same : Same (after s arrived) (after_once t ps)
 
 -- what the receiver holds: after a corrupted copy the stretch's own command, else no command
-abbrev pub Ready : Option Pair → LastPair → Type 0
+abbrev pub Ready : Option Pair → Option Pair → Type 0
 Ready None l = awaits l ≡ false
-Ready (Some p) l = l ≡ last.Was p
+Ready (Some p) l = l ≡ Some p
 
 -- so it takes a copy for a repeat exactly where one was corrupted before in the stretch
-repeat_is_told : (h : Option Pair) (l : LastPair) (p : Pair) (c : ControlCode) → IsCommand p c → Ready h l → is_last p l ≡ was_corrupted h p
+repeat_is_told : (h : Option Pair) (l : Option Pair) (p : Pair) (c : ControlCode) → IsCommand p c → Ready h l → is_last p l ≡ was_corrupted h p
 repeat_is_told None l p c k r = quiet_is_no_repeat p c k.0 l k.1 r
 repeat_is_told (Some q) l p c k r = ap (is_last p) r
 
@@ -81,10 +79,10 @@ module _ (p : Pair) (ps : List Pair) (odd : is_odd_pair p ≡ true) (go : Contin
   parity = both_true (is_odd p.0) (is_odd p.1) odd
 
   -- text arrives as it was sent, and is read by both; the receiver holds it then
-  holds_text : (h : Option Pair) (t : Bool) → was_corrupted h p ≡ t → is_command_pair p ≡ false → Ready (cond t h None) (last.Was p)
+  holds_text : (h : Option Pair) (t : Bool) → was_corrupted h p ≡ t → is_command_pair p ≡ false → Ready (cond t h None) (Some p)
   holds_text h false w is = is
   holds_text None true w is = absurd (true≢false (sym w))
-  holds_text (Some q) true w is = ap last.Was (sym (same_is_equal q p w))
+  holds_text (Some q) true w is = ap Some (sym (same_is_equal q p w))
 
   text_heard : (h : Option Pair) (qs : List Pair) (s t : Cea608State) → is_command_pair p ≡ false → OneByOne h (p ∷ doubled ps) qs → Same s t → Agrees s t qs (p ∷ ps)
   text_heard h qs s t is (one.is_corrupted c w even rest) same = absurd (true≢false (sym c ∙ is))
@@ -114,7 +112,7 @@ module _ (p : Pair) (ps : List Pair) (odd : is_odd_pair p ≡ true) (go : Contin
       (command_once t p heard_code (is_a_command is)) a
 
   -- after a first copy that acted: its repeat is skipped, or corrupted
-  second_after_acting : (s t : Cea608State) (qs : List Pair) → is_command_pair p ≡ true → Same s t → s.last_data ≡ last.Was p → OneByOne None (p ∷ doubled ps) qs → Agrees s t qs ps
+  second_after_acting : (s t : Cea608State) (qs : List Pair) → is_command_pair p ≡ true → Same s t → s.last_data ≡ Some p → OneByOne None (p ∷ doubled ps) qs → Agrees s t qs ps
   second_after_acting s t qs is same holds (one.arrives {qs = qs'} rest) =
       silent_in_front s t (forgotten s) p qs' ps
       (repeat_is_skipped s p heard_code (is_a_command is) (ap (is_last p) holds ∙ last_is_last p))
@@ -129,7 +127,7 @@ module _ (p : Pair) (ps : List Pair) (odd : is_odd_pair p ≡ true) (go : Contin
   second_acts (Some q) s t qs is same corrupted other (one.arrives {qs = qs'} rest) =
       let on = subst (λ (b : Bool). OneByOne (cond b (Some q) None) (doubled ps) qs') corrupted rest in
       acts_heard s t qs' is other
-      (go (Some q) qs' _ _ on (ap last.Was (sym (same_is_equal q p corrupted))) (acted_same s t same))
+      (go (Some q) qs' _ _ on (ap Some (sym (same_is_equal q p corrupted))) (acted_same s t same))
 
   -- the two copies of a command
   command_heard : (h : Option Pair) (qs : List Pair) (s t : Cea608State) (corrupted : Bool) → was_corrupted h p ≡ corrupted → is_command_pair p ≡ true → OneByOne h (p ∷ p ∷ doubled ps) qs → Ready h s.last_data → Same s t → Agrees s t qs (p ∷ ps)

@@ -2,6 +2,7 @@
 -- exactly where it is harmless. Each direction is a law of its own, of a state of any contents; between the two, from a state
 -- that is not settled, case (d) is left open.
 -- Assumes nothing.
+use Rattle.code.specs.declared.channel.Field.{Field}
 use mathlib.Core.Bool.{Bool, true, false, cond, not, ◌&&◌, ◌||◌, true≢false}
 use mathlib.Core.List.{List, [], ◌∷◌}
 use mathlib.Core.Logic.{◌⊎◌, inl, inr, ⊎_elim}
@@ -37,18 +38,15 @@ use Rattle.receiver.specs.Receiver.{after_reading, field_after, fresh, heard_cod
 use Rattle.receiver.specs.declared.state.Cea608State.{Cea608State}
 use Rattle.receiver.specs.declared.state.LastChannel.{LastChannel}
 use Rattle.receiver.specs.declared.state.LastChannel.TheVariants as channel
-use Rattle.receiver.specs.declared.state.LastField.{LastField}
-use Rattle.receiver.specs.declared.state.LastPair.{LastPair}
-use Rattle.receiver.specs.declared.state.LastPair.TheVariants as last
 
 not_both : (t u : Bool) → (t ≡ true → ⊥) → t && u ≡ false
 not_both true u h = absurd (h refl)
 not_both false u h = refl
 
 -- where no repeat is awaited, a command is never the last pair
-pub quiet_is_no_repeat : (p : Pair) (c : ControlCode) (y : Code) (l : LastPair) → read_pair p.0 p.1 ≡ answer (code.Control c, y) → awaits l ≡ false → is_last p l ≡ false
-quiet_is_no_repeat p c y last.Absent e quiet = refl
-quiet_is_no_repeat p c y (last.Was q) e quiet =
+pub quiet_is_no_repeat : (p : Pair) (c : ControlCode) (y : Code) (l : Option Pair) → read_pair p.0 p.1 ≡ answer (code.Control c, y) → awaits l ≡ false → is_last p l ≡ false
+quiet_is_no_repeat p c y None e quiet = refl
+quiet_is_no_repeat p c y (Some q) e quiet =
     not_both (eqb q.0 p.0) (eqb q.1 p.1)
     (λ (t : eqb q.0 p.0 ≡ true).
     true≢false
@@ -57,12 +55,12 @@ quiet_is_no_repeat p c y (last.Was q) e quiet =
     ∙ quiet))
 
 -- a pair that is not the awaited repeat: another than the last pair, or none is awaited
-abbrev Other : Pair → LastPair → Type 0
+abbrev Other : Pair → Option Pair → Type 0
 Other p l = (is_last p l ≡ false) ⊎ (awaits l ≡ false)
 
 -- such a pair is read alike from any two states of one channel and field, whatever their last pairs
-module _ (p : Pair) (l m : LastPair) (ch : LastChannel) (f : LastField) where
-  no_repeat_lem : (c : ControlCode) (y : Code) (k : LastPair) → read_pair p.0 p.1 ≡ answer (code.Control c, y) → Other p k → is_last p k ≡ false
+module _ (p : Pair) (l m : Option Pair) (ch : LastChannel) (f : Option Field) where
+  no_repeat_lem : (c : ControlCode) (y : Code) (k : Option Pair) → read_pair p.0 p.1 ≡ answer (code.Control c, y) → Other p k → is_last p k ≡ false
   no_repeat_lem c y k e = ⊎_elim (λ other. other) (λ quiet. quiet_is_no_repeat p c y k e quiet)
 
   codes_alike : (x y : Code) → read_pair p.0 p.1 ≡ answer (x, y) → Other p l → Other p m → heard_codes (state l ch f) p x y ≡ heard_codes (state m ch f) p x y
@@ -84,7 +82,7 @@ module _ (s t : Cea608State) (p : Pair) (ps : List Pair) where
   abbrev channel_from : Stepped → LastChannel
   channel_from x = (after x.1 ps).last_channel
 
-  abbrev field_from : Stepped → LastField
+  abbrev field_from : Stepped → Option Field
   field_from x = (after x.1 ps).last_received_field
 
   equal_from_here : step s p ≡ step t p → ReadAlike s t (p ∷ ps)
@@ -118,7 +116,7 @@ module _ (s : Cea608State) where
       first : (t : Bool) → is_odd_pair p ≡ t → repeat_is_not_next s.last_data (cond t (Some p) (next_read ps)) ≡ true → (repeat_is_not_next s.last_data (next_read ps) ≡ true → ReadAlike s (after_padding s) ps) → ReadAlike s (after_padding s) (p ∷ ps)
       first true odd is go =
           equal_from_here s (after_padding s) p ps
-          (others_alike p s.last_data (last.Was padding) s.last_channel s.last_received_field odd
+          (others_alike p s.last_data (Some padding) s.last_channel s.last_received_field odd
           (by_cases (awaits s.last_data) (is_last p s.last_data) is) (inr refl))
       first false even is go = refused_alike s (after_padding s) p ps even (go is)
 
@@ -130,41 +128,41 @@ read_so p odd is =
 
 -- the case (d): a command that has no event, whose channel and field are set already, and two states of which each has it
 -- for the last pair or awaits no repeat
-module _ (p : Pair) (odd : is_odd_pair p ≡ true) (is : is_command_pair p ≡ true) (ch : LastChannel) (f : LastField) where
-  abbrev Near : LastPair → Type 0
-  Near l = (l ≡ last.Was p) ⊎ (awaits l ≡ false)
+module _ (p : Pair) (odd : is_odd_pair p ≡ true) (is : is_command_pair p ≡ true) (ch : LastChannel) (f : Option Field) where
+  abbrev Near : Option Pair → Type 0
+  Near l = (l ≡ Some p) ⊎ (awaits l ≡ false)
 
   -- it leaves such a state, whether it acts or is skipped
-  record Silently (l : LastPair) : Type 0 where
-    left : LastPair
+  record Silently (l : Option Pair) : Type 0 where
+    left : Option Pair
     near : Near left
     steps : step (state l ch f) p ≡ (answer None, state left ch f)
 
   module _ (silent : event_of (command_in p) ≡ None) (ch_set : channel.Known (command_in p).channel ≡ ch) (f_set : field_after (command_in p).field f ≡ f) where
-    silently : (l : LastPair) → Near l → Silently l
+    silently : (l : Option Pair) → Near l → Silently l
     silently l (inl e) = record {
-      left = last.Absent;
+      left = None;
       near = inr refl;
       steps = repeat_is_skipped (state l ch f) p (command_in p) (read_so p odd is) (ap (is_last p) e ∙ last_is_last p);
     }
     silently l (inr quiet) = record {
-      left = last.Was p;
+      left = Some p;
       near = inl refl;
       steps =
           command_acts (state l ch f) p (command_in p) (read_so p odd is) (quiet_is_no_repeat p (command_in p) (read_so p odd is).0 l (read_so p odd is).1 quiet)
           ∙ rw (silent, ch_set, f_set);
     }
 
-    near_other : (q : Pair) (l : LastPair) → same_pair p q ≡ false → Near l → Other q l
+    near_other : (q : Pair) (l : Option Pair) → same_pair p q ≡ false → Near l → Other q l
     near_other q l e (inl was) = inl (ap (is_last q) was ∙ e)
     near_other q l e (inr quiet) = inr quiet
 
-    silent_alike : (rest : List Pair) (l m : LastPair) → Near l → Near m → ReadAlike (state l ch f) (state m ch f) rest
+    silent_alike : (rest : List Pair) (l m : Option Pair) → Near l → Near m → ReadAlike (state l ch f) (state m ch f) rest
     silent_alike [] l m nl nm = record { same_answers = refl; same_channel = refl; same_field = refl }
     silent_alike (q ∷ qs) l m nl nm =
         first (is_odd_pair q) (same_pair p q) refl refl (silent_alike qs)
       where
-        first : (o e : Bool) → is_odd_pair q ≡ o → same_pair p q ≡ e → ((l m : LastPair) → Near l → Near m → ReadAlike (state l ch f) (state m ch f) qs) → ReadAlike (state l ch f) (state m ch f) (q ∷ qs)
+        first : (o e : Bool) → is_odd_pair q ≡ o → same_pair p q ≡ e → ((l m : Option Pair) → Near l → Near m → ReadAlike (state l ch f) (state m ch f) qs) → ReadAlike (state l ch f) (state m ch f) (q ∷ qs)
         first false e even k go = refused_alike (state l ch f) (state m ch f) q qs even (go l m nl nm)
         first true false fine k go =
             equal_from_here (state l ch f) (state m ch f) q qs
@@ -177,9 +175,9 @@ module _ (p : Pair) (odd : is_odd_pair p ≡ true) (is : is_command_pair p ≡ t
             one.steps two.steps (go one.left two.left one.near two.near))
 
 -- where none of (a), (b) and (c) holds, the awaited repeat is next
-record RepeatNext (l : LastPair) (next : Option Pair) : Type 0 where
+record RepeatNext (l : Option Pair) (next : Option Pair) : Type 0 where
   awaited : Pair
-  is_last_lem : l ≡ last.Was awaited
+  is_last_lem : l ≡ Some awaited
   is_next : next ≡ Some awaited
   command : is_command_pair awaited ≡ true
 
@@ -192,10 +190,10 @@ both_so true true e = (refl, refl)
 both_so true false e = absurd (true≢false e)
 both_so false r e = absurd (true≢false e)
 
-repeat_next : (l : LastPair) (next : Option Pair) → repeat_is_not_next l next ≡ false → RepeatNext l next
-repeat_next last.Absent next e = absurd (true≢false e)
-repeat_next (last.Was p) None e = absurd (none_next (is_command_pair p) e)
-repeat_next (last.Was p) (Some q) e =
+repeat_next : (l : Option Pair) (next : Option Pair) → repeat_is_not_next l next ≡ false → RepeatNext l next
+repeat_next None next e = absurd (true≢false e)
+repeat_next (Some p) None e = absurd (none_next (is_command_pair p) e)
+repeat_next (Some p) (Some q) e =
     let so = both_so (is_command_pair p) (same_pair p q) e in
     record { awaited = p; is_last_lem = refl; is_next = ap {B = Option Pair} Some (sym (same_is_equal p q so.1)); command = so.0 }
 
@@ -213,21 +211,21 @@ no_event (Some x) e = absurd (true≢false (sym e))
 
 -- one direction, from a state of any contents
 module _ (s : Cea608State) (rest : List Pair) where
-  silent_repeat : (p : Pair) → s.last_data ≡ last.Was p → is_odd_pair p ≡ true → is_command_pair p ≡ true → SetBy (last.Was p) s → is_silent (last.Was p) ≡ true → ReadAlike s (after_padding s) rest
+  silent_repeat : (p : Pair) → s.last_data ≡ Some p → is_odd_pair p ≡ true → is_command_pair p ≡ true → SetBy (Some p) s → is_silent (Some p) ≡ true → ReadAlike s (after_padding s) rest
   silent_repeat p was odd is set silent =
       let acted = command_once s p (command_in p) (read_so p odd is) in
       silent_alike p odd is s.last_channel s.last_received_field (no_event (event_of (command_in p)) silent)
       (sym (ap (λ (x : Stepped). x.1.last_channel) acted) ∙ set.0)
       (sym (ap (λ (x : Stepped). x.1.last_received_field) acted) ∙ set.1)
-      rest s.last_data (last.Was padding) (inl was) (inr refl)
+      rest s.last_data (Some padding) (inl was) (inr refl)
 
   repadded_alike : (t : Bool) → repeat_is_not_next s.last_data (next_read rest) ≡ t → (t || is_silent s.last_data) ≡ true → (t ≡ false → Settled s) → ReadAlike s (after_padding s) rest
   repadded_alike true e fine settled = no_repeat_alike s rest e
   repadded_alike false e fine settled =
       let r = repeat_next s.last_data (next_read rest) e in
       silent_repeat r.awaited r.is_last_lem (next_is_odd rest r.awaited r.is_next) r.command
-      (subst (λ (l : LastPair). SetBy l s) r.is_last_lem (settled refl))
-      (subst (λ (l : LastPair). is_silent l ≡ true) r.is_last_lem fine)
+      (subst (λ (l : Option Pair). SetBy l s) r.is_last_lem (settled refl))
+      (subst (λ (l : Option Pair). is_silent l ≡ true) r.is_last_lem fine)
 
   pub may_repad_changes_nothing : MayRepad s rest → Unchanged s rest
   may_repad_changes_nothing may =
@@ -242,12 +240,12 @@ heads_equal e = cc
 tails_equal : {A : Type 0} {x y : A} {xs ys : List A} → (x ∷ xs) ≡ (y ∷ ys) → xs ≡ ys
 tails_equal e = cc
 
-module _ (s : Cea608State) (p : Pair) (was : s.last_data ≡ last.Was p) (is : is_command_pair p ≡ true) where
+module _ (s : Cea608State) (p : Pair) (was : s.last_data ≡ Some p) (is : is_command_pair p ≡ true) where
   silent_if_unnoticed : is_odd_pair p ≡ true → (step s p).0 ≡ (step (after_padding s) p).0 → event_of (command_in p) ≡ None
   silent_if_unnoticed odd e =
       let k = read_so p odd is in
       let skipped = repeat_is_skipped s p (command_in p) k (ap (is_last p) was ∙ last_is_last p) in
-      let acted = command_acts (after_padding s) p (command_in p) k (quiet_is_no_repeat p (command_in p) k.0 (last.Was padding) k.1 refl) in
+      let acted = command_acts (after_padding s) p (command_in p) k (quiet_is_no_repeat p (command_in p) k.0 (Some padding) k.1 refl) in
       sym
       (same
       (sym (ap (λ (x : Stepped). x.0) skipped) ∙ e ∙ ap (λ (x : Stepped). x.0) acted))

@@ -2,6 +2,7 @@
 -- whole over a line that corrupts one copy of each command; with both copies of the carriage return corrupted the
 -- window does not scroll; with the text corrupted its words are lost. antt computes each from the definitions.
 -- Assumes nothing.
+use Rattle.std.specs.Prelude.{Some}
 use mathlib.Core.Bool.{true, false}
 use mathlib.Core.List.{List, [], ◌∷◌, map}
 use Rattle.std.specs.Prelude.{None}
@@ -14,10 +15,8 @@ use Rattle.code.specs.Characters.{standard}
 use Rattle.code.specs.Read.{control_code_of, meaning, read_pair, single}
 use Rattle.code.specs.Pair.{pair}
 use Rattle.code.specs.Write.{control_bytes, in_domain, on_line, write_code}
-use Rattle.code.specs.declared.character.Character.TheVariants as character
 use Rattle.code.specs.declared.code.Code.{Code}
 use Rattle.code.specs.declared.code.Code.TheVariants as code
-use Rattle.code.specs.declared.control.CodeField.TheVariants.{Of}
 use Rattle.code.specs.declared.control.Command.{Command}
 use Rattle.code.specs.declared.control.Command.TheVariants.{CarriageReturn, RollUp2}
 use Rattle.code.specs.declared.control.Control.TheVariants as control
@@ -47,7 +46,7 @@ use Rattle.code.specs.Code.{char_of}
 use Rattle.sender.specs.Sending.{send}
 
 abbrev pub command : Command → Code
-command c = code.Control (record { field = Of field_one; channel = channel_one; control = control.Command c })
+command c = code.Control (record { field = Some field_one; channel = channel_one; control = control.Command c })
 
 -- one pair is sent, and a drain writes the others into nine bytes, from the second byte on
 abbrev programme : List Call
@@ -62,7 +61,7 @@ abbrev pub return_event : Cea608
 return_event = event.CarriageReturn channel_one
 
 abbrev pub hi_event : Cea608
-hi_event = event.Text (record { needs_backspace = false; char1 = character.Point 0x48; char2 = character.Point 0x69; channel = channel_one })
+hi_event = event.Text (record { needs_backspace = false; char1 = Some 0x48; char2 = Some 0x69; channel = channel_one })
 
 abbrev line : List Pair
 line = roll_up2 ∷ roll_up2 ∷ carriage_return ∷ carriage_return ∷ hi ∷ []

@@ -1,5 +1,6 @@
 -- What padding does to a receiver: it gives no event, and leaves channel and field as they are.
 -- Assumes nothing.
+use Rattle.std.specs.Prelude.{Some}
 use Rattle.std.specs.Prelude.{None}
 use mathlib.Core.Path.{◌≡◌, refl, ap, ◌∙◌}
 use Rattle.agreement.specs.Pairs.{padding}
@@ -13,7 +14,6 @@ use Rattle.receiver.specs.declared.state.LastChannel.{LastChannel}
 use Rattle.receiver.specs.declared.state.LastChannel.TheVariants as channel
 use Rattle.receiver.specs.Heard.{text_event}
 use Rattle.code.specs.Code.{char_of}
-use Rattle.receiver.specs.declared.state.LastPair.TheVariants as last
 
 no_text : (ch : LastChannel) → text_for ch code.Nul code.Nul ≡ None
 unfolding text_event char_of
@@ -21,7 +21,7 @@ no_text channel.Absent = refl
 no_text (channel.Known ch) = refl
 
 abbrev pub after_padding : Cea608State → Cea608State
-after_padding s = state (last.Was padding) s.last_channel s.last_received_field
+after_padding s = state (Some padding) s.last_channel s.last_received_field
 
 pub padding_step : (s : Cea608State) → step s padding ≡ (answer None, after_padding s)
 unfolding step

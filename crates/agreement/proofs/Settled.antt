@@ -1,6 +1,7 @@
 -- Every state that is reached from the fresh one is settled: the last pair, if it is a command, has set channel and field,
 -- and only refused pairs can have come since.
 -- Assumes nothing.
+use Rattle.std.specs.Prelude.{Some}
 use mathlib.Core.Bool.{Bool, true, false, cond}
 use mathlib.Core.List.{List, [], ◌∷◌}
 use Rattle.std.specs.Prelude.{None}
@@ -16,11 +17,10 @@ use Rattle.receiver.proofs.Copies.{field_again}
 use Rattle.receiver.specs.Reading.{after}
 use Rattle.receiver.specs.Receiver.{acts, after_reading, forgotten, fresh, heard_codes, heard_text, is_last, step}
 use Rattle.receiver.specs.declared.state.Cea608State.{Cea608State}
-use Rattle.receiver.specs.declared.state.LastPair.TheVariants as last
 
 module _ (s : Cea608State) (p : Pair) where
   -- by what the pair is read as
-  set_by : (t : Cea608State) (o : Outcome (Code × Code)) → read_pair p.0 p.1 ≡ o → (after_reading (forgotten t) p o).1.last_channel ≡ t.last_channel → (after_reading (forgotten t) p o).1.last_received_field ≡ t.last_received_field → SetBy (last.Was p) t
+  set_by : (t : Cea608State) (o : Outcome (Code × Code)) → read_pair p.0 p.1 ≡ o → (after_reading (forgotten t) p o).1.last_channel ≡ t.last_channel → (after_reading (forgotten t) p o).1.last_received_field ≡ t.last_received_field → SetBy (Some p) t
   unfolding step
   set_by t o e ch f = (
     ap (λ (x : Outcome (Code × Code)). (after_reading (forgotten t) p x).1.last_channel) e ∙ ch,

@@ -26,8 +26,6 @@ use Rattle.code.specs.Parity.{is_odd, stripped}
 use Rattle.code.specs.Read.{control_code_of, is_command, meaning, read_pair, single}
 use Rattle.code.specs.Write.{control_bytes, in_domain, is_command_code, on_line, write_code}
 use Rattle.code.specs.declared.channel.Channel.{Channel}
-use Rattle.code.specs.declared.character.Character.{Character}
-use Rattle.code.specs.declared.character.Character.TheVariants as character
 use Rattle.code.specs.declared.code.Code.{Code}
 use Rattle.code.specs.declared.code.Code.TheVariants as code
 use Rattle.code.specs.declared.color.Color.TheVariants.{White}
@@ -95,11 +93,11 @@ padding_first ps qs go s t same =
     rw (padding_once s) (go (after_padding s) t (record { channel = same.channel; field = same.field }))
 
 -- a text of two characters shows what its two show
-apart : (ch : Channel) (c d : Character) → shown_by (answer (text_of ch c d)) ≡ shown_by (answer (text_of ch c character.Absent)) ++ shown_by (answer (text_of ch d character.Absent))
-apart ch character.Absent character.Absent = refl
-apart ch character.Absent (character.Point d) = refl
-apart ch (character.Point c) character.Absent = refl
-apart ch (character.Point c) (character.Point d) = refl
+apart : (ch : Channel) (c d : Option ℕ) → shown_by (answer (text_of ch c d)) ≡ shown_by (answer (text_of ch c None)) ++ shown_by (answer (text_of ch d None))
+apart ch None None = refl
+apart ch None (Some d) = refl
+apart ch (Some c) None = refl
+apart ch (Some c) (Some d) = refl
 
 abbrev shown_alone : LastChannel → Code → List Cea608
 shown_alone l x = shown_by (answer (text_for l x code.Nul))
@@ -341,7 +339,7 @@ both_let_in_hi = (
 
 -- and both show the new mode, H and i
 abbrev one_letter : ℕ → Cea608
-one_letter c = event.Text (record { needs_backspace = false; char1 = character.Point c; char2 = character.Absent; channel = channel_one })
+one_letter c = event.Text (record { needs_backspace = false; char1 = Some c; char2 = None; channel = channel_one })
 
 pub what_hi_shows :
     (shown (events (answers fresh (roll_up2 ∷ roll_up2 ∷ pair 0xC8 0x80 ∷ pair 0xE9 0x80 ∷ []))) ≡ mode_event ∷ one_letter 0x48 ∷ one_letter 0x69 ∷ [])

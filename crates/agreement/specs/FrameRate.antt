@@ -15,14 +15,12 @@ use Rattle.receiver.specs.Heard.{event_of}
 use Rattle.receiver.specs.Reading.{after, answers, once}
 use Rattle.receiver.specs.Receiver.{fresh, is_last, step}
 use Rattle.receiver.specs.declared.state.Cea608State.{Cea608State}
-use Rattle.receiver.specs.declared.state.LastPair.{LastPair}
-use Rattle.receiver.specs.declared.state.LastPair.TheVariants as last
 
 -- The last pair is a command, whose repeat may come. A refused pair is not held: after a command and a corrupted pair, the
 -- command's repeat is still awaited.
-abbrev pub awaits : LastPair → Bool
-awaits last.Absent = false
-awaits (last.Was p) = is_command_pair p
+abbrev pub awaits : Option Pair → Bool
+awaits None = false
+awaits (Some p) = is_command_pair p
 
 -- the next pair that is not refused, if one follows
 abbrev pub next_read : List Pair → Option Pair
@@ -33,7 +31,7 @@ abbrev pub is_none : {A : Type 0} → Option A → Bool
 is_none None = true
 is_none (Some x) = false
 
-abbrev pub differs : LastPair → Option Pair → Bool
+abbrev pub differs : Option Pair → Option Pair → Bool
 differs l None = false
 differs l (Some p) = not (is_last p l)
 
@@ -42,13 +40,13 @@ abbrev pub command_in : Pair → ControlCode
 command_in p = control_code_of (stripped p.0) (stripped p.1)
 
 -- it has no event: an alarm, flash, a text command, an `Unknown`, or a symbol that has no character
-abbrev pub is_silent : LastPair → Bool
-is_silent last.Absent = false
-is_silent (last.Was p) = is_none (event_of (command_in p))
+abbrev pub is_silent : Option Pair → Bool
+is_silent None = false
+is_silent (Some p) = is_none (event_of (command_in p))
 
 -- By the last pair and the next one that is not refused, that one is not the awaited repeat: (a) no repeat is awaited,
 -- (b) no such pair follows, or (c) it differs from the last pair.
-abbrev pub repeat_is_not_next : LastPair → Option Pair → Bool
+abbrev pub repeat_is_not_next : Option Pair → Option Pair → Bool
 repeat_is_not_next l next = not (awaits l) || is_none next || differs l next
 
 -- A place of a stream is given by the state there and the rest of the stream. Padding does no harm in the cases (a), (b)
@@ -73,9 +71,9 @@ FrameRateLaw =
 
 -- Read once more, the last pair would leave channel and field as they are. Every state that is reached from the fresh one is
 -- so; a state of other contents need not be.
-abbrev pub SetBy : LastPair → Cea608State → Type 0
-SetBy last.Absent s = Unit
-SetBy (last.Was p) s =
+abbrev pub SetBy : Option Pair → Cea608State → Type 0
+SetBy None s = Unit
+SetBy (Some p) s =
     ((once s p).1.last_channel ≡ s.last_channel) × ((once s p).1.last_received_field ≡ s.last_received_field)
 
 abbrev pub Settled : Cea608State → Type 0

@@ -2,11 +2,11 @@
 -- is sent before i is pushed goes out as C8 80, and i as E9 80; both pushed first go out as C8 E9. So the events differ, and
 -- their characters, one by one, do not. `ShownLaw` says what is shown: what each accepted code shows when it is sent alone.
 -- `TwoRunsLaw`, at the end, says that two runs show the same. proofs/Shown.antt proves both.
+use Rattle.std.specs.Prelude.{None, Option, Some}
+use Rattle.std.specs.Prelude.{ℕ}
 use Rattle.std.specs.Prelude.{Bool, true, false, cond, ◌&&◌, not, List, [], ◌∷◌, ◌++◌, ◌≡◌}
 use Rattle.code.specs.Code.{needs_backspace}
 use Rattle.code.specs.declared.channel.Channel.{Channel}
-use Rattle.code.specs.declared.character.Character.{Character}
-use Rattle.code.specs.declared.character.Character.TheVariants as character
 use Rattle.code.specs.declared.code.Code.{Code}
 use Rattle.code.specs.declared.pair.Pair.{Pair}
 use Rattle.event.specs.declared.event.Cea608.{Cea608}
@@ -24,15 +24,15 @@ use Rattle.agreement.specs.Pairs.{space_alone}
 use Rattle.agreement.specs.QueuedCommands.{accepted_in}
 
 -- a text of one character, or nothing where it is absent
-abbrev pub one_character : Bool → Channel → Character → List Cea608
-one_character marked ch character.Absent = []
-one_character marked ch (character.Point c) =
-    event.Text (record { needs_backspace = marked; char1 = character.Point c; char2 = character.Absent; channel = ch }) ∷ []
+abbrev pub one_character : Bool → Channel → Option ℕ → List Cea608
+one_character marked ch None = []
+one_character marked ch (Some c) =
+    event.Text (record { needs_backspace = marked; char1 = Some c; char2 = None; channel = ch }) ∷ []
 
 -- the characters of a text: the mark, that a character takes the place of the one before it, is the first one's
-abbrev pub characters_of : Bool → Channel → Character → Character → List Cea608
-characters_of marked ch character.Absent second = one_character marked ch second
-characters_of marked ch (character.Point c) second = one_character marked ch (character.Point c) ++ one_character false ch second
+abbrev pub characters_of : Bool → Channel → Option ℕ → Option ℕ → List Cea608
+characters_of marked ch None second = one_character marked ch second
+characters_of marked ch (Some c) second = one_character marked ch (Some c) ++ one_character false ch second
 
 -- an event with its characters one by one: any other than text is itself
 abbrev pub by_character : Cea608 → List Cea608

@@ -1,5 +1,6 @@
 -- 01's pairs tried by hand that are to be proved, those marked P, as one list in 01's order, each with what is asked of
 -- it and what it gives. A pair is read by itself, or pairs by a fresh receiver, or codes are queued and pairs popped.
+use Rattle.code.specs.declared.channel.Field.{Field}
 use Rattle.std.specs.Prelude.{ℕ, false, List, [], ◌∷◌, ◌++◌, map, replicate}
 use Rattle.std.specs.Prelude.{Option, None, Some}
 use Rattle.code.specs.Channel.{channel_one, field_one, field_two}
@@ -10,8 +11,6 @@ use Rattle.code.specs.Pair.{pair}
 use Rattle.code.specs.declared.code.Code.{Code}
 use Rattle.code.specs.declared.code.Code.TheVariants as code
 use Rattle.code.specs.declared.color.Color.TheVariants.{White}
-use Rattle.code.specs.declared.control.CodeField.{CodeField}
-use Rattle.code.specs.declared.control.CodeField.TheVariants.{Absent, Of}
 use Rattle.code.specs.declared.control.Command.TheVariants.{EraseDisplayedMemory}
 use Rattle.code.specs.declared.control.Control.{Control}
 use Rattle.code.specs.declared.control.Control.TheVariants as control
@@ -54,7 +53,7 @@ abbrev case : Tried → Gave → Case
 case t g = record { tried = t; gives = g }
 
 -- a pair read as a command on channel one
-abbrev read_as : CodeField → Control → Gave
+abbrev read_as : Option Field → Control → Gave
 read_as f c = codes (answer (code.Control (record { field = f; channel = channel_one; control = c }), code.Nul))
 
 abbrev row_10_white : Control
@@ -70,11 +69,11 @@ pop_gives a b = to_pop (answer (pair a b))
 -- padding; H and a space, then Á; a space, then Á
 abbrev pub cases : List Case
 cases =
-    case (reads (pair 0x10 0x40)) (read_as Absent row_10_white) ∷ case (reads (pair 0x10 0xE0)) (read_as Absent (control.Unknown 0x10 0x60))
-    ∷ case (reads (pair 0x15 0x2C)) (read_as (Of field_two) (control.Command EraseDisplayedMemory))
-    ∷ case (reads (pair 0x94 0x2C)) (read_as (Of field_one) (control.Command EraseDisplayedMemory))
-    ∷ case (reads (pair 0x97 0xA1)) (read_as Absent (control.Tab TabOffset1))
-    ∷ case (reads (pair 0x91 0xAE)) (read_as Absent (control.MidRow (italic false)))
+    case (reads (pair 0x10 0x40)) (read_as None row_10_white) ∷ case (reads (pair 0x10 0xE0)) (read_as None (control.Unknown 0x10 0x60))
+    ∷ case (reads (pair 0x15 0x2C)) (read_as (Some field_two) (control.Command EraseDisplayedMemory))
+    ∷ case (reads (pair 0x94 0x2C)) (read_as (Some field_one) (control.Command EraseDisplayedMemory))
+    ∷ case (reads (pair 0x97 0xA1)) (read_as None (control.Tab TabOffset1))
+    ∷ case (reads (pair 0x91 0xAE)) (read_as None (control.MidRow (italic false)))
     ∷ case (hears (roll_up2 ∷ roll_up2 ∷ roll_up2 ∷ [])) (heard (two_rows ∷ answer None ∷ two_rows ∷ []))
     ∷ case (hears (roll_up2 ∷ padding ∷ roll_up2 ∷ [])) (heard (two_rows ∷ answer None ∷ two_rows ∷ []))
     ∷ case (hears (hi ∷ [])) (heard (answer None ∷ [])) ∷ case (queues [] 1) (replies (pop_gives 0x80 0x80 ∷ []))

@@ -205,7 +205,7 @@ impl ExtendedState {
         }
     }
 
-    // A pair of odd parity, without it. The captions' receiver has taken the pair, and answered.
+    // A pair of odd parity, by its bytes without parity. The captions' receiver has taken it, and this is its answer.
     pub(crate) fn take(
         self,
         captions: Cea608State,

@@ -9,14 +9,16 @@ use Prim.Native.Nat.{ℕ, zero, suc, ◌+◌, ◌-◌, ◌≤◌, ◌<◌}
 use native.Mathlib.Omega.{arith}
 use lib.ListN.{length}
 use Rattle.code.specs.Code.{needs_backspace}
+use Rattle.code.specs.Outcome.{Outcome, answer}
 use Rattle.code.specs.Pair.{pair}
 use Rattle.code.specs.declared.code.Code.{Code}
 use Rattle.code.specs.declared.pair.Pair.{Pair}
+use Rattle.queue.proofs.Refines.{popped_as}
 use Rattle.queue.proofs.Places.{how_many_lem}
 use Rattle.queue.specs.Number.{code_of}
 use Rattle.queue.specs.Queue.{Pop, byte_of, is_single, pair_of, pop, pop_command, pop_single, pop_two, pop_waiting, queued}
-use Rattle.queue.specs.Ring.{code_at_place, codes_from, held_as, held_in, left_in, number_at, view}
-use Rattle.queue.specs.Turn.{command_turn, freeing, front_turn, single_turn, turn_by, turn_of}
+use Rattle.queue.specs.Ring.{code_at_place, codes_from, held_as, held_in, left_in, number_at, pop_ring, view, well_formed}
+use Rattle.queue.specs.Turn.{command_turn, freeing, front_turn, single_turn, turn_by, turn_in, turn_of}
 use Rattle.queue.specs.declared.pop.Turn.{Turn}
 use Rattle.queue.specs.declared.ring.Queue.{Queue}
 
@@ -117,9 +119,6 @@ in_ring places at zero None = refl
 in_ring places at (suc n) None = front_in_ring places at n (is_single (code_at_place places at)) refl
 
 -- the turn by the first two numbers is the ring's pop
-abbrev pub turn_in : Queue → Turn
-turn_in q = turn_of (number_at q.places q.start) (number_at q.places (q.start + 1)) q.waiting q.held
-
 pub turn_is_the_pop : (q : Queue) → (turn_in q).pair ≡ (pop (view q)).pair
 turn_is_the_pop q = ap (λ (t : Turn). t.pair) (in_ring q.places q.start q.waiting q.held)
 
@@ -129,3 +128,12 @@ turn_leaves q = ap (freeing q) (in_ring q.places q.start q.waiting q.held)
 pub turn_frees_waiting : (q : Queue) → (turn_in q).freed ≤ q.waiting
 turn_frees_waiting q =
     omega (arith, ap (λ (t : Turn). t.freed) (in_ring q.places q.start q.waiting q.held), how_many_lem q.places q.start q.waiting)
+
+-- a well-formed ring is left as its turn says
+pub taken_by_turn : (q : Queue) (t : Turn) → well_formed q ≡ true → t ≡ turn_in q → (answer t.pair, freeing q t) ≡ pop_ring q
+taken_by_turn q t formed is =
+    ap₂ {C = Outcome Pair × Queue} (λ (p : Pair) (r : Queue). (answer p, r)) (ap (λ (x : Turn). x.pair) is ∙ turn_is_the_pop q) (ap (freeing q) is ∙ turn_leaves q)
+    ∙ sym (popped_as q formed)
+
+pub frees_waiting : (q : Queue) (t : Turn) → t ≡ turn_in q → t.freed ≤ q.waiting
+frees_waiting q t is = omega (arith, ap (λ (x : Turn). x.freed) is, turn_frees_waiting q)

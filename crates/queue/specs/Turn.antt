@@ -4,7 +4,7 @@ use Rattle.std.specs.Prelude.{Option, None}
 use Rattle.std.specs.Prelude.{ℕ, zero, suc, ◌+◌, ◌-◌, ◌%◌, List, [], ◌∷◌, map, get_or, length}
 use Rattle.queue.specs.Number.{code_of}
 use Rattle.queue.specs.Queue.{Pop, pop, pop_command, pop_two, queued}
-use Rattle.queue.specs.Ring.{held_as, held_in}
+use Rattle.queue.specs.Ring.{held_as, held_in, number_at}
 use Rattle.queue.specs.declared.pop.Turn.{Turn}
 use Rattle.queue.specs.declared.ring.Queue.{Queue}
 
@@ -24,6 +24,10 @@ abbrev pub turn_of : ℕ → ℕ → ℕ → Option ℕ → Turn
 turn_of first second waiting held =
     let numbers = front first second waiting in
     turn_by numbers (pop (queued (map code_of numbers) (held_in held)))
+
+-- the turn of a ring
+abbrev pub turn_in : Queue → Turn
+turn_in q = turn_of (number_at q.places q.start) (number_at q.places (q.start + 1)) q.waiting q.held
 
 abbrev pub front_turn : ℕ → ℕ → ℕ → Turn
 front_turn first second waiting = turn_of first second waiting None

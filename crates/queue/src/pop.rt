@@ -1,7 +1,7 @@
 // Taking the next pair for the line out of the queue.
-ghost use Rattle.std.specs.Prelude.{◌≡◌, ◌≤◌, ◌<◌, ◌+◌};
-ghost use Rattle.queue.specs.Ring.{number_at, pop_outcome, pop_ring};
-ghost use Rattle.queue.specs.Turn.{command_turn, freeing, single_turn, turn_of};
+ghost use Rattle.std.specs.Prelude.{◌≡◌, ◌≤◌, ◌<◌};
+ghost use Rattle.queue.specs.Ring.{pop_outcome, pop_ring};
+ghost use Rattle.queue.specs.Turn.{command_turn, single_turn, turn_in};
 
 use crate::number::{byte_of, is_single, needs_backspace, pair_of};
 use crate::ring::Queue;
@@ -63,7 +63,7 @@ impl Queue {
     // with the second where it may share the pair.
     #[tactic(auto, using(crate::proofs::Numbered::single_from, crate::proofs::Numbered::command_below, crate::proofs::Turns::held_turn, crate::proofs::Turns::empty_turn, crate::proofs::Turns::command_turns, crate::proofs::Turns::last_turns, crate::proofs::Turns::single_turns))]
     pub fn turn(&self) -> Turn
-        ensures { result ≡ turn_of (number_at self.now.places self.now.start) (number_at self.now.places (self.now.start + 1)) self.now.waiting self.now.held }
+        ensures { result ≡ turn_in self.now }
     {
         if let Some(number) = self.held {
             return Turn {
@@ -94,19 +94,6 @@ impl Queue {
         single_turn(first, self.places[(start + 1) % 64])
     }
 
-    // The queue after a turn: the places of the codes that left are free again.
-    pub(crate) fn freeing(self, turn: Turn) -> Queue
-        requires { (self.start < 64) × (self.waiting ≤ 64) × (turn.freed ≤ self.waiting) }
-        ensures { result ≡ freeing self turn }
-    {
-        Queue {
-            start: (self.start + turn.freed) % 64,
-            waiting: self.waiting - turn.freed,
-            held: turn.held,
-            ..self
-        }
-    }
-
     // The next pair for the line; 80 80 where nothing waits.
     pub fn pop(self) -> (Queue, Result<Pair, IllFormed>)
         ensures { pop_outcome result ≡ pop_ring self }
@@ -115,6 +102,12 @@ impl Queue {
             return (self, Err(IllFormed));
         }
         let turn = self.turn();
-        (self.freeing(turn), Ok(turn.pair))
+        let queue = Queue {
+            start: (self.start + turn.freed) % 64,
+            waiting: self.waiting - turn.freed,
+            held: turn.held,
+            ..self
+        };
+        (queue, Ok(turn.pair))
     }
 }

@@ -44,22 +44,22 @@ impl Queue {
         }
     }
 
-    // Stores a code's number after those that wait, wrapping around to place 0. A refusal changes nothing.
-    pub(crate) fn enter(&mut self, code: Code) -> Result<(), PushError>
-        ensures { push_outcome (self.new, result) ≡ push_ring self.old code }
-    {
-        if let Some(number) = self.entry_for(code)? {
-            self.places[(self.start + self.waiting) % 64] = number;
-            self.waiting += 1;
-        }
-        Ok(())
-    }
-
-    // Puts a code after those that wait. NUL is accepted and not stored; a refusal hands the queue back as it was.
-    pub fn push(mut self, code: Code) -> (Queue, Result<(), PushError>)
+    // Puts a code after those that wait, wrapping around to place 0. A refusal hands the queue back as it was. The two
+    // ways meet before the answer is made: the compiler then copies the ring once.
+    pub fn push(self, code: Code) -> (Queue, Result<(), PushError>)
         ensures { push_outcome result ≡ push_ring self code }
     {
-        let answer = self.enter(code);
-        (self, answer)
+        let mut queue = self;
+        let answer = match self.entry_for(code) {
+            Ok(entry) => {
+                if let Some(number) = entry {
+                    queue.places[(self.start + self.waiting) % 64] = number;
+                    queue.waiting = self.waiting + 1;
+                }
+                Ok(())
+            }
+            Err(e) => Err(e),
+        };
+        (queue, answer)
     }
 }

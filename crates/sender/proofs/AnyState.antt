@@ -2,6 +2,7 @@
 -- has odd parity in both bytes, a repeat too.
 -- Assumes nothing.
 use mathlib.Core.Bool.{Bool, true, false}
+use Rattle.std.specs.Prelude.{Option, None, Some}
 use mathlib.Core.Path.{◌≡◌, refl, ap, sym, ◌∙◌}
 use Prim.Native.Nat.{ℕ, ◌≤◌}
 use native.Mathlib.Omega.{arith}
@@ -20,8 +21,6 @@ use Rattle.queue.specs.declared.ring.Queue.{Queue}
 use Rattle.sender.proofs.Refines.{counts_codes, ill_formed_count, ill_formed_send, queue_formed, repeats_formed, sent_pair}
 use Rattle.sender.specs.Sender.{count_sender, owed_fits, send_sender, view, well_formed}
 use Rattle.sender.specs.Sending.{send, send_from, source_by}
-use Rattle.sender.specs.declared.sender.Owed.{Owed}
-use Rattle.sender.specs.declared.sender.Owed.TheVariants as owed
 use Rattle.sender.specs.declared.sender.Sender.{Sender}
 
 -- an answer that is no refusal came from a well-formed state
@@ -38,9 +37,9 @@ n_codes_at_most_65 s n answered = count_answer s n (well_formed s) refl answered
 pub odd_of_sent : (p : Pair) → SentPair p → is_odd_pair p ≡ true
 odd_of_sent p sent = rw (sent.first.odd, sent.second.odd) refl
 
-odd_by_owed : (o : Owed) (q : Queue) → owed_fits o ≡ true → queue.well_formed q ≡ true → is_odd_pair (send_from (source_by o) (queue.view q)).pair ≡ true
-odd_by_owed (owed.Repeat p) q fits formed = both_left (is_odd_pair p) (is_command_pair p) fits
-odd_by_owed owed.Absent q fits formed =
+odd_by_owed : (o : Option Pair) (q : Queue) → owed_fits o ≡ true → queue.well_formed q ≡ true → is_odd_pair (send_from (source_by o) (queue.view q)).pair ≡ true
+odd_by_owed (Some p) q fits formed = both_left (is_odd_pair p) (is_command_pair p) fits
+odd_by_owed None q fits formed =
     odd_of_sent (pop (queue.view q)).pair (popped_is_sent (queue.view q) (good_fits q formed))
 
 send_answer : (s : Sender) (p : Pair) (t : Bool) → well_formed s ≡ t → (send_sender s).0 ≡ answer p → is_odd_pair p ≡ true

@@ -1,11 +1,13 @@
 -- The writer of pairs, one turn at a time. What it comes to from a state, with some sends made and the part filled up
 -- to a place, is the same before a send and after it; with no turn left it is what has been done.
 -- Assumes nothing.
-use mathlib.Core.Bool.{true, false}
+use mathlib.Core.Bool.{Bool, true, false}
 use mathlib.Core.List.{List, [], ◌∷◌, ◌++◌, append_assoc}
 use mathlib.Core.Path.{◌≡◌, refl, ap, ap₂, sym, ◌∙◌}
-use Prim.Native.Nat.{ℕ, zero, suc, ◌+◌, ◌-◌, ◌≤◌, ◌<◌}
+use Prim.Native.Nat.{ℕ, zero, suc, ◌+◌, ◌*◌, ◌-◌, ◌/◌, ◌≤◌, ◌<◌, min}
 use native.Mathlib.Omega.{arith}
+use borrow.Author.Tests.{leb-false, leb-true}
+use lib.Dec.{leb}
 use lib.ListN.{drop, length, length-set, set, take, take-append-drop}
 use lib.Seq.{drop-drop, drop-set-lt, take-suc-set}
 use Rattle.code.proofs.OneAnswer.{same}
@@ -13,8 +15,8 @@ use Rattle.code.specs.Outcome.{Outcome, answer}
 use Rattle.code.specs.declared.pair.Pair.{Pair}
 use Rattle.sender.proofs.Refines.{sent_pair, sent_view}
 use Rattle.sender.specs.Drain.{bytes_of_pairs, drained_pairs, filled, send_sender_times}
-use Rattle.sender.proofs.Steps.{step_is_the_send, step_in}
-use Rattle.sender.specs.ByParts.{filling, moved}
+use Rattle.sender.proofs.Steps.{step_is_the_send}
+use Rattle.sender.specs.ByParts.{filling, moved, step_in}
 use Rattle.sender.specs.Sender.{send_sender, view, well_formed}
 use Rattle.sender.specs.Sending.{Sending, is_idle, send}
 use Rattle.sender.specs.declared.sender.Sender.{Sender}
@@ -112,6 +114,15 @@ pub done_when_idle : (limit sends : ℕ) (s : Sender) (part : List ℕ) (at : �
 done_when_idle limit sends s part at e =
     ap (once_sent sends s part at) (none_when_idle (limit - sends) (length part - at) (view s) e) ∙ none_left sends s part at
 
+-- with as many sends as the limit and the room allow
+module _ (limit most sends : ℕ) (s : Sender) (part : List ℕ) (room : most ≡ min limit (length part / 2)) (all : sends ≡ most) where
+  at_most_by : (t : Bool) → leb limit sends ≡ t → comes_to limit sends s part (2 * sends) ≡ (sends, s, part)
+  at_most_by true e = done_at_limit limit sends s part (2 * sends) (leb-true limit sends e)
+  at_most_by false e = done_without_room limit sends s part (2 * sends) (omega (arith, leb-false limit sends e))
+
+  pub done_at_most : comes_to limit sends s part (2 * sends) ≡ (most, s, part)
+  done_at_most = at_most_by (leb limit sends) refl ∙ ap {B = ℕ × Sender × List ℕ} (λ (n : ℕ). (n, s, part)) all
+
 -- a turn: one send more, its pair in its place
 turned : (sends : ℕ) (s : Sender) (part : List ℕ) (at : ℕ) (p : Pair) (ps : List Pair) → 2 ≤ length part - at → once_sent sends s part at (p ∷ ps) ≡ once_sent (sends + 1) (send_sender s).1 (stored_at part at p) (at + 2) ps
 turned sends s part at p ps room =
@@ -130,10 +141,13 @@ one_send limit sends s part at formed more room busy =
     ∙ ap₂ (λ (n r : ℕ). once_sent (sends + 1) (send_sender s).1 next (at + 2) (drained_pairs n r (send (view s)).next)) fewer less
     ∙ ap (λ (v : Sending). once_sent (sends + 1) (send_sender s).1 next (at + 2) (drained_pairs (limit - (sends + 1)) (length next - (at + 2)) v)) (sym (sent_view s formed))
 
--- the same turn, with the step that the code found
-pub one_turn : (limit sends : ℕ) (s : Sender) (part : List ℕ) (at : ℕ) → well_formed s ≡ true → sends < limit → 2 ≤ length part - at → is_idle (view s) ≡ false → comes_to limit (sends + 1) (moved s (step_in s)) (set (set part at (step_in s).pair.0) (at + 1) (step_in s).pair.1) (at + 2) ≡ comes_to limit sends s part at
-one_turn limit sends s part at formed more room busy =
+-- the same turn, with the step that the code found, which stores its pair after those that were sent
+pub one_turn : (limit sends : ℕ) (s : Sender) (part : List ℕ) → well_formed s ≡ true → sends < limit → 2 ≤ length part - 2 * sends → is_idle (view s) ≡ false → comes_to limit (sends + 1) (moved s (step_in s)) (set (set part (2 * sends) (step_in s).pair.0) (2 * sends + 1) (step_in s).pair.1) (2 * (sends + 1)) ≡ comes_to limit sends s part (2 * sends)
+one_turn limit sends s part formed more room busy =
+    let at = 2 * sends in
+    let on : 2 * (sends + 1) ≡ at + 2 = omega arith in
     let sent = step_is_the_send s formed in
     let told : ◌≡◌ {A = Outcome Pair} (answer (step_in s).pair) (answer (send (view s)).pair) = ap (λ (x : Outcome Pair × Sender). x.0) sent ∙ sent_pair s formed in
-    ap₂ (λ (x : Sender) (p : Pair). comes_to limit (sends + 1) x (stored_at part at p) (at + 2)) (ap (λ (x : Outcome Pair × Sender). x.1) sent) (same told)
+    ap (comes_to limit (sends + 1) (moved s (step_in s)) (stored_at part at (step_in s).pair)) on
+    ∙ ap₂ (λ (x : Sender) (p : Pair). comes_to limit (sends + 1) x (stored_at part at p) (at + 2)) (ap (λ (x : Outcome Pair × Sender). x.1) sent) (same told)
     ∙ sym (one_send limit sends s part at formed more room busy)

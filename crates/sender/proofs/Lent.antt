@@ -10,9 +10,8 @@ use lib.ListN.{drop, length, take}
 use Rattle.code.proofs.LentPart.{lent_part, with_part_lem}
 use Rattle.code.specs.Outcome.{Outcome, answer, refused}
 use Rattle.sender.specs.Drain.{drain_sender, drained, drained_pairs}
-use Rattle.sender.specs.ByParts.{filling, writing_outcome, sender_at}
+use Rattle.sender.specs.ByParts.{filling}
 use Rattle.sender.specs.Sender.{view, well_formed}
-use Rattle.sender.specs.declared.drain.Writing.{Writing}
 use Rattle.sender.specs.declared.sender.Sender.{Sender}
 
 -- 12, then 11
@@ -29,8 +28,8 @@ unfolding drain_sender
 drained_as s out start limit e inside = rw (e, le-ltb (length out) start inside) refl
 
 -- what the writer of pairs did to the part is what the drain does to the output
-pub lent_part_is_drained : (s : Sender) (out : List ℕ) (start limit : ℕ) (r : Writing) (ys : List ℕ) → well_formed s ≡ true → start ≤ length out → writing_outcome s r ys ≡ filling s (take (length out - start) (drop start out)) limit → (answer r.sends, sender_at s r, take start out ++ (ys ++ drop (length out - start) (drop start out))) ≡ drain_sender s out start limit
-lent_part_is_drained s out start limit r ys e inside done =
-    ap {B = Outcome ℕ × Sender × List ℕ} (λ (l : List ℕ). (answer r.sends, sender_at s r, l)) (with_part_lem out start ys)
+pub lent_part_is_drained : (s : Sender) (out : List ℕ) (start limit n : ℕ) (next : Sender) (ys : List ℕ) → well_formed s ≡ true → start ≤ length out → (n, next, ys) ≡ filling s (take (length out - start) (drop start out)) limit → (answer n, next, take start out ++ (ys ++ drop (length out - start) (drop start out))) ≡ drain_sender s out start limit
+lent_part_is_drained s out start limit n next ys e inside done =
+    ap {B = Outcome ℕ × Sender × List ℕ} (λ (l : List ℕ). (answer n, next, l)) (with_part_lem out start ys)
     ∙ ap {B = Outcome ℕ × Sender × List ℕ} (λ (x : ℕ × Sender × List ℕ). (answer x.0, x.1, take start out ++ x.2)) (done ∙ ap (λ (l : List ℕ). filling s l limit) (lent_part out start))
     ∙ sym (drained_as s out start limit e inside)

@@ -6,7 +6,7 @@ pub mod ExactlySoMany
 pub mod Filling
 pub mod FirstByte
 pub mod FirstInFirstOut
-pub mod IllFormed
+pub mod FromIllFormed
 pub mod InCalls
 pub mod Lent
 pub mod NothingLeft

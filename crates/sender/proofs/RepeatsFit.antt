@@ -3,6 +3,7 @@
 -- odd parity.
 -- Assumes nothing.
 use mathlib.Core.Bool.{Bool, true, false, ◌&&◌}
+use Rattle.std.specs.Prelude.{Option, None, Some}
 use mathlib.Core.Path.{◌≡◌, refl, ap, sym, ◌∙◌}
 use Prim.Native.Nat.{ℕ}
 use Rattle.code.proofs.Both.{both_fail, both_left, both_right}
@@ -16,8 +17,6 @@ use Rattle.queue.specs.Ring as queue
 use Rattle.queue.specs.declared.ring.Queue.{Queue}
 use Rattle.sender.proofs.Refines.{ill_formed_count, ill_formed_push, pushed_as, repeats_formed, well_formed_lem}
 use Rattle.sender.specs.Sender.{count_sender, owed_fits, push_sender, repeats_fit, sender, well_formed}
-use Rattle.sender.specs.declared.sender.Owed.{Owed}
-use Rattle.sender.specs.declared.sender.Owed.TheVariants as owed
 use Rattle.sender.specs.declared.sender.Sender.{Sender}
 
 queue_fails : (s : Sender) → queue.well_formed s.queue ≡ false → well_formed s ≡ false
@@ -29,12 +28,12 @@ unfolding well_formed
 repeats_fail s e = rw e (both_fail (queue.well_formed s.queue))
 
 -- what is owed is a command pair of odd parity
-owed_by : (o : Owed) (p : Pair) → o ≡ owed.Repeat p → owed_fits o ≡ true → (is_odd_pair p ≡ true) × (is_command_pair p ≡ true)
+owed_by : (o : Option Pair) (p : Pair) → o ≡ Some p → owed_fits o ≡ true → (is_odd_pair p ≡ true) × (is_command_pair p ≡ true)
 owed_by o p is fits =
     let both : (is_odd_pair p && is_command_pair p) ≡ true = rw is at fits in
     (both_left (is_odd_pair p) (is_command_pair p) both, both_right (is_odd_pair p) (is_command_pair p) both)
 
-pub owed_is_a_command : (s : Sender) (p : Pair) → well_formed s ≡ true → s.repeats.owed ≡ owed.Repeat p → (is_odd_pair p ≡ true) × (is_command_pair p ≡ true)
+pub owed_is_a_command : (s : Sender) (p : Pair) → well_formed s ≡ true → s.repeats.owed ≡ Some p → (is_odd_pair p ≡ true) × (is_command_pair p ≡ true)
 owed_is_a_command s p formed is = owed_by s.repeats.owed p is (repeats_formed s formed)
 
 abbrev pushed_by : Sender → Outcome Unit × Queue → Outcome Unit × Sender

@@ -34,8 +34,6 @@ use Rattle.sender.specs.Good.{Good}
 use Rattle.sender.specs.Sender.{idle_sender, send_sender, view}
 use Rattle.sender.specs.SendsLeft.{copies, sends_for, sends_for_held, sends_left, spaces}
 use Rattle.sender.specs.Sending.{Sending, Source, ahead, is_absent, is_idle, none_owed, owed_pairs, pops, repeats_after, send, send_from, send_times, source, source_by, still_owed}
-use Rattle.sender.specs.declared.sender.Owed.{Owed}
-use Rattle.sender.specs.declared.sender.Owed.TheVariants as owed
 use Rattle.sender.specs.declared.sender.Sender.{Sender}
 
 -- what is owed after a pair that begins with a code is the second of its copies
@@ -72,10 +70,10 @@ popped_fewer (space_first x l e wants) f busy = rw (e, wants) (omega arith)
 popped_fewer (command_goes x l e wants) f busy =
     rw (e, wants) (omega (arith, second_copy x (pair_of x) refl (first_waits x l f.codes)))
 
-sent_fewer : (o : Owed) (s : Sending) → s.repeats.owed ≡ o → Fit s.queue → is_idle s ≡ false → sends_left s ≡ suc (sends_left (send_from (source_by o) s.queue).next)
+sent_fewer : (o : Option Pair) (s : Sending) → s.repeats.owed ≡ o → Fit s.queue → is_idle s ≡ false → sends_left s ≡ suc (sends_left (send_from (source_by o) s.queue).next)
 unfolding sends_left
-sent_fewer (owed.Repeat p) s e f busy = rw e (omega arith)
-sent_fewer owed.Absent s e f busy =
+sent_fewer (Some p) s e f busy = rw e (omega arith)
+sent_fewer None s e f busy =
     rw e (omega (arith, popped_fewer (way_of s.queue) f (has_codes (count s.queue) (rw e at busy))))
   where
     has_codes : (n : ℕ) → (eqb n 0 && true) ≡ false → 0 < n
@@ -101,15 +99,15 @@ nothing_waits [] None e = refl
 nothing_waits [] (Some c) e = absurd (true≢false (sym e))
 nothing_waits (x ∷ l) h e = absurd (true≢false (sym e ∙ ne_eqb (count (queued (x ∷ l) h)) 0 (λ (z : count (queued (x ∷ l) h) ≡ 0). omega (arith, z))))
 
-nothing_owed : (o : Owed) → is_absent o ≡ true → o ≡ owed.Absent
-nothing_owed owed.Absent e = refl
-nothing_owed (owed.Repeat p) e = absurd (true≢false (sym e))
+nothing_owed : (o : Option Pair) → is_absent o ≡ true → o ≡ None
+nothing_owed None e = refl
+nothing_owed (Some p) e = absurd (true≢false (sym e))
 
 module _ (s : Sending) (idle : is_idle s ≡ true) where
   empty_queue : s.queue ≡ empty
   empty_queue = nothing_waits s.queue.waiting s.queue.held (both_left (eqb (count s.queue) 0) (none_owed s.repeats) idle)
 
-  pub none_owed_lem : s.repeats.owed ≡ owed.Absent
+  pub none_owed_lem : s.repeats.owed ≡ None
   none_owed_lem = nothing_owed s.repeats.owed (both_right (eqb (count s.queue) 0) (none_owed s.repeats) idle)
 
   pub idle_has_none_left : sends_left s ≡ 0
@@ -169,9 +167,9 @@ held_at_most : (h : Option Code) → sends_for_held h ≤ 3 * length (held_codes
 held_at_most None = omega arith
 held_at_most (Some c) = omega (arith, two_copies (is_command_code c))
 
-one_owed : (o : Owed) → length (owed_pairs o) ≤ 1
-one_owed owed.Absent = omega arith
-one_owed (owed.Repeat p) = omega arith
+one_owed : (o : Option Pair) → length (owed_pairs o) ≤ 1
+one_owed None = omega arith
+one_owed (Some p) = omega arith
 
 pub at_most_three_a_code : (s : Sending) → sends_left s ≤ 3 * count s.queue + 1
 unfolding sends_left

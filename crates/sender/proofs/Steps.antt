@@ -5,34 +5,21 @@ use mathlib.Core.Bool.{true}
 use mathlib.Core.Path.{◌≡◌, refl, ap, ap₂, sym, ◌∙◌}
 use Prim.Native.Nat.{ℕ, ◌+◌, ◌-◌, ◌%◌, ◌≤◌, ◌<◌}
 use native.Mathlib.Omega.{arith}
-use lib.ListN.{get_or}
 use Rattle.code.specs.Outcome.{Outcome, answer}
 use Rattle.code.specs.declared.pair.Pair.{Pair}
-use Rattle.queue.proofs.Places.{place_is}
 use Rattle.queue.proofs.Refines as ring
-use Rattle.queue.proofs.Turns.{turn_frees_waiting, turn_is_the_pop, turn_leaves, turn_in}
+use Rattle.queue.proofs.Turns.{turn_frees_waiting, turn_is_the_pop, turn_leaves}
 use Rattle.queue.proofs.WellFormed.{formed}
-use Rattle.queue.specs.Ring.{number_at, pop_ring}
+use Rattle.queue.specs.Ring.{pop_ring}
 use Rattle.queue.specs.Ring as queue
-use Rattle.queue.specs.Turn.{freeing}
+use Rattle.queue.specs.Turn.{freeing, turn_in}
 use Rattle.queue.specs.declared.ring.Queue.{Queue}
 use Rattle.sender.proofs.Refines.{queue_formed, sent_as}
-use Rattle.sender.specs.ByParts.{moved, step_by, step_of}
+use Rattle.sender.specs.ByParts.{moved, step_by, step_in}
 use Rattle.sender.specs.Sender.{queue_after, send_sender, sender, view, well_formed}
 use Rattle.sender.specs.Sending.{Source, ahead, no_repeat, pops, repeats_after, send, send_from, source}
 use Rattle.sender.specs.declared.send.Step.{Step}
 use Rattle.sender.specs.declared.sender.Sender.{Sender}
-
--- the step of a state
-abbrev pub step_in : Sender → Step
-step_in s =
-    step_of (number_at s.queue.places s.queue.start) (number_at s.queue.places (s.queue.start + 1)) s.queue.waiting s.queue.held s.repeats
-
--- as the code finds it: the first number at its place
-pub step_found : (s : Sender) (t : Step) → s.queue.start < 64 → t ≡ step_of (get_or s.queue.places s.queue.start 0) (number_at s.queue.places (s.queue.start + 1)) s.queue.waiting s.queue.held s.repeats → t ≡ step_in s
-step_found s t less e =
-    e
-    ∙ ap (λ (n : ℕ). step_of n (number_at s.queue.places (s.queue.start + 1)) s.queue.waiting s.queue.held s.repeats) (place_is s.queue.places s.queue.start less)
 
 -- no place is freed: the queue as it was
 same_queue : (q : Queue) → q.start < 64 → ◌≡◌ {A = Queue} (record { places = q.places; start = (q.start + 0) % 64; waiting = q.waiting - 0; held = q.held }) q

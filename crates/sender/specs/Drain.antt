@@ -1,14 +1,14 @@
 -- The drain, from 01's section "Queue and sender": whole pairs into the part of the output from the given start, until
 -- idle, out of room or at its limit of pairs. 12, then 11: the start lies past the end.
 use Rattle.std.specs.Prelude.{ℕ, zero, suc, cond, List, [], ◌∷◌, ◌++◌, ltb, drop, length, take}
+use Rattle.std.specs.Prelude.{Result, Ok, Err}
 use Rattle.code.specs.Outcome.{Outcome, answer, refused}
 use Rattle.code.specs.Pair.{pair}
 use Rattle.code.specs.declared.pair.Pair.{Pair}
 use Rattle.sender.specs.Sender.{send_sender, view, well_formed}
 use Rattle.sender.specs.Sending.{Sending, is_idle, send}
-use Rattle.sender.specs.declared.drain.DrainAnswer.{DrainAnswer}
-use Rattle.sender.specs.declared.drain.DrainAnswer.TheVariants as drain_answer
-use Rattle.sender.specs.declared.drain.Drained.{Drained}
+use Rattle.sender.specs.declared.drain.DrainError.{DrainError}
+use Rattle.sender.specs.declared.drain.DrainError.TheVariants as drain_error
 use Rattle.sender.specs.declared.sender.Sender.{Sender}
 
 -- the pairs that are sent, by the limit of pairs and the bytes of room; a single last byte is no room
@@ -48,10 +48,13 @@ drain_sender s out start limit =
     (cond (ltb (length out) start) (refused 11, s, out)
     (drained s out start (drained_pairs limit (length (drop start out)) (view s)))) (refused 12, s, out)
 
-abbrev pub drain_answer_outcome : DrainAnswer → Outcome ℕ
-drain_answer_outcome (drain_answer.Sends n) = answer n
-drain_answer_outcome drain_answer.StartPastEnd = refused 11
-drain_answer_outcome drain_answer.IllFormed = refused 12
+abbrev pub drain_refusal : DrainError → ℕ
+drain_refusal drain_error.StartPastEnd = 11
+drain_refusal drain_error.IllFormed = 12
 
-abbrev pub drain_outcome : Drained → List ℕ → Outcome ℕ × Sender × List ℕ
-drain_outcome r out = (drain_answer_outcome r.answer, r.sender, out)
+abbrev pub drain_answer_outcome : Result ℕ DrainError → Outcome ℕ
+drain_answer_outcome (Ok n) = answer n
+drain_answer_outcome (Err e) = refused (drain_refusal e)
+
+abbrev pub drain_outcome : Sender × Result ℕ DrainError → List ℕ → Outcome ℕ × Sender × List ℕ
+drain_outcome r out = (drain_answer_outcome r.1, r.0, out)

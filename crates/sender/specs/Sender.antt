@@ -1,6 +1,7 @@
 -- The sender's state: which lists it stands for, which states are well formed (01's refusal 12), and the state that each
 -- call leaves. The answers are the lists', from `Sending`.
 use Rattle.std.specs.Prelude.{ℕ, Bool, true, false, cond, ◌&&◌}
+use Rattle.std.specs.Prelude.{Option, None, Some, Result, Ok, Err}
 use Rattle.code.specs.Outcome.{Outcome, answer, refused}
 use Rattle.code.specs.Read.{is_command_pair, is_odd_pair}
 use Rattle.code.specs.declared.code.Code.{Code}
@@ -8,16 +9,10 @@ use Rattle.code.specs.declared.pair.Pair.{Pair}
 use Rattle.queue.specs.Queue.{count}
 use Rattle.queue.specs.Ring.{count_answer_outcome, fresh_ring, pop_answer_outcome, pop_ring, push_answer_outcome, push_ring}
 use Rattle.queue.specs.Ring as ring
+use Rattle.queue.specs.declared.push.PushError.{PushError}
 use Rattle.queue.specs.declared.ring.Queue.{Queue}
+use Rattle.queue.specs.declared.well_formed.IllFormed.{IllFormed}
 use Rattle.sender.specs.Sending.{Sending, Source, ahead, is_idle, no_repeat, pops, send, sending_of, source}
-use Rattle.sender.specs.declared.idle.IdleAnswer.{IdleAnswer}
-use Rattle.sender.specs.declared.idle.IdleAnswer.TheVariants as idle_answer
-use Rattle.sender.specs.declared.idle.Idleness.{Idleness}
-use Rattle.sender.specs.declared.count.Counted.{Counted}
-use Rattle.sender.specs.declared.push.Pushed.{Pushed}
-use Rattle.sender.specs.declared.send.Sent.{Sent}
-use Rattle.sender.specs.declared.sender.Owed.{Owed}
-use Rattle.sender.specs.declared.sender.Owed.TheVariants as owed
 use Rattle.sender.specs.declared.sender.Repeats.{Repeats}
 use Rattle.sender.specs.declared.sender.Sender.{Sender}
 
@@ -32,9 +27,9 @@ sender q r = record { queue = q; repeats = r }
 abbrev pub may_be_owed : Pair → Bool
 may_be_owed p = is_odd_pair p && is_command_pair p
 
-abbrev pub owed_fits : Owed → Bool
-owed_fits owed.Absent = true
-owed_fits (owed.Repeat p) = may_be_owed p
+abbrev pub owed_fits : Option Pair → Bool
+owed_fits None = true
+owed_fits (Some p) = may_be_owed p
 
 abbrev pub repeats_fit : Repeats → Bool
 repeats_fit r = owed_fits r.owed
@@ -70,19 +65,18 @@ unfoldable pub idle_sender : Sender → Outcome Bool × Sender
 idle_sender s = tested s (answer (is_idle (view s)), s)
 
 -- the outcome of each answer; those of a push, a send and a count are the queue's answers
-abbrev pub push_outcome : Pushed → Outcome Unit × Sender
-push_outcome r = (push_answer_outcome r.answer, r.sender)
+abbrev pub push_outcome : Sender × Result Unit PushError → Outcome Unit × Sender
+push_outcome r = (push_answer_outcome r.1, r.0)
 
-abbrev pub send_outcome : Sent → Outcome Pair × Sender
-send_outcome r = (pop_answer_outcome r.answer, r.sender)
+abbrev pub send_outcome : Sender × Result Pair IllFormed → Outcome Pair × Sender
+send_outcome r = (pop_answer_outcome r.1, r.0)
 
-abbrev pub count_outcome : Counted → Outcome ℕ × Sender
-count_outcome r = (count_answer_outcome r.answer, r.sender)
+abbrev pub count_outcome : Sender × Result ℕ IllFormed → Outcome ℕ × Sender
+count_outcome r = (count_answer_outcome r.1, r.0)
 
-abbrev pub idle_answer_outcome : IdleAnswer → Outcome Bool
-idle_answer_outcome idle_answer.Idle = answer true
-idle_answer_outcome idle_answer.Busy = answer false
-idle_answer_outcome idle_answer.IllFormed = refused 12
+abbrev pub idle_answer_outcome : Result Bool IllFormed → Outcome Bool
+idle_answer_outcome (Ok t) = answer t
+idle_answer_outcome (Err e) = refused 12
 
-abbrev pub idle_outcome : Idleness → Outcome Bool × Sender
-idle_outcome r = (idle_answer_outcome r.answer, r.sender)
+abbrev pub idle_outcome : Sender × Result Bool IllFormed → Outcome Bool × Sender
+idle_outcome r = (idle_answer_outcome r.1, r.0)

@@ -1,14 +1,13 @@
 -- The sender as lists: the queue, and what is to be repeated. From 01's section "Queue and sender". That a command is sent
 -- twice is 47 CFR 79.101 (i)(1)'s; that text is not, and when the repeat goes out, are 01's.
 use Rattle.std.specs.Prelude.{ℕ, zero, suc, Bool, true, false, cond, ◌&&◌, List, [], ◌∷◌, eqb}
+use Rattle.std.specs.Prelude.{Option, None, Some}
 use Rattle.code.specs.Outcome.{Outcome}
 use Rattle.code.specs.Read.{is_command_pair}
 use Rattle.code.specs.declared.code.Code.{Code}
 use Rattle.code.specs.declared.pair.Pair.{Pair}
 use Rattle.queue.specs.Queue.{Pop, Queued, count, empty, pop}
 use Rattle.queue.specs.Queue as queue
-use Rattle.sender.specs.declared.sender.Owed.{Owed}
-use Rattle.sender.specs.declared.sender.Owed.TheVariants as owed
 use Rattle.sender.specs.declared.sender.Repeats.{Repeats}
 
 pub record Sending : Type 0 where
@@ -20,22 +19,22 @@ sending_of q r = record { queue = q; repeats = r }
 
 -- no pair is owed, and an owed pair
 abbrev pub no_repeat : Repeats
-no_repeat = record { owed = owed.Absent }
+no_repeat = record { owed = None }
 
 abbrev pub repeating : Pair → Repeats
-repeating p = record { owed = owed.Repeat p }
+repeating p = record { owed = Some p }
 
-abbrev pub is_absent : Owed → Bool
-is_absent owed.Absent = true
-is_absent (owed.Repeat p) = false
+abbrev pub is_absent : Option Pair → Bool
+is_absent None = true
+is_absent (Some p) = false
 
 abbrev pub none_owed : Repeats → Bool
 none_owed r = is_absent r.owed
 
 -- the repeat that is still to come, if any
-abbrev pub owed_pairs : Owed → List Pair
-owed_pairs owed.Absent = []
-owed_pairs (owed.Repeat p) = p ∷ []
+abbrev pub owed_pairs : Option Pair → List Pair
+owed_pairs None = []
+owed_pairs (Some p) = p ∷ []
 
 abbrev pub still_owed : Repeats → List Pair
 still_owed r = owed_pairs r.owed
@@ -71,9 +70,9 @@ pub data Source : Type 0 where
   pops : Source
 
 -- an owed repeat goes ahead
-abbrev pub source_by : Owed → Source
-source_by (owed.Repeat p) = ahead p
-source_by owed.Absent = pops
+abbrev pub source_by : Option Pair → Source
+source_by (Some p) = ahead p
+source_by None = pops
 
 abbrev pub source : Sending → Source
 source s = source_by s.repeats.owed

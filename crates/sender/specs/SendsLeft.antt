@@ -9,7 +9,6 @@ use Rattle.code.specs.Symbol.{symbol_at}
 use Rattle.code.specs.Write.{is_command_code}
 use Rattle.code.specs.declared.code.Code.{Code}
 use Rattle.code.specs.declared.code.Code.TheVariants as code
-use Rattle.code.specs.declared.control.CodeField.TheVariants.{Absent}
 use Rattle.code.specs.declared.control.Control.TheVariants as control
 use Rattle.queue.specs.Queue.{is_single, pair_of, queued}
 use Rattle.sender.specs.Sending.{Sending, repeating, sending_of, still_owed}
@@ -50,4 +49,4 @@ full_of c n = sending_of (queued (replicate n c) None) (repeating (pair_of c))
 
 -- Á, 12 20, a code that takes three: a space, the command, its repeat
 abbrev pub a_acute : Code
-a_acute = code.Control (record { field = Absent; channel = channel_one; control = control.Symbol (symbol_at 16) })
+a_acute = code.Control (record { field = None; channel = channel_one; control = control.Symbol (symbol_at 16) })

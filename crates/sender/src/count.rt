@@ -3,32 +3,17 @@ ghost use Rattle.std.specs.Prelude.{◌≡◌};
 ghost use Rattle.sender.specs.Sender.{count_outcome, count_sender};
 
 use crate::sender::Sender;
-use queue::CountAnswer;
-
-#[derive(Clone, Copy)]
-pub struct Counted {
-    pub sender: Sender,
-    pub answer: CountAnswer,
-}
+use queue::IllFormed;
 
 impl Sender {
     // The codes that wait, and the held one. A pair that is owed is no code.
-    pub fn n_codes(self) -> Counted
+    pub fn n_codes(self) -> (Sender, Result<usize, IllFormed>)
         ensures { count_outcome result ≡ count_sender self }
     {
-        let repeats = self.repeats;
-        if !repeats.is_well_formed() {
-            return Counted {
-                answer: CountAnswer::IllFormed,
-                sender: self,
-            };
+        if !self.repeats.is_well_formed() {
+            return (self, Err(IllFormed));
         }
-        let queue = self.queue;
-        let counted = queue.n_codes();
-        let answer = counted.answer;
-        Counted {
-            answer: answer,
-            sender: self,
-        }
+        let (_, answer) = self.queue.n_codes();
+        (self, answer)
     }
 }

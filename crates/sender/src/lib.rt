@@ -11,9 +11,5 @@ pub mod send;
 pub mod sender;
 pub mod well_formed;
 
-pub use count::Counted;
-pub use drain::{DrainAnswer, Drained};
-pub use idle::{IdleAnswer, Idleness};
-pub use push::Pushed;
-pub use send::Sent;
-pub use sender::{Owed, Repeats, Sender};
+pub use drain::DrainError;
+pub use sender::{Repeats, Sender};

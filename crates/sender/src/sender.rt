@@ -5,17 +5,10 @@ ghost use Rattle.sender.specs.Sender.{fresh_sender};
 use code::Pair;
 use queue::Queue;
 
-// A command pair that has been sent once.
-#[derive(Clone, Copy)]
-pub enum Owed {
-    Absent,
-    Repeat(Pair),
-}
-
-// What the sender keeps beside the queue so that each command goes out twice.
+// What the sender keeps beside the queue so that each command goes out twice: a command pair that has been sent once.
 #[derive(Clone, Copy)]
 pub struct Repeats {
-    pub owed: Owed,
+    pub owed: Option<Pair>,
 }
 
 #[derive(Clone, Copy)]
@@ -31,7 +24,7 @@ impl Sender {
     {
         Sender {
             queue: Queue::new(),
-            repeats: Repeats { owed: Owed::Absent },
+            repeats: Repeats { owed: None },
         }
     }
 

@@ -3,7 +3,7 @@ ghost use Rattle.std.specs.Prelude.{◌≡◌};
 ghost use Rattle.sender.specs.Sender.{repeats_fit, may_be_owed, well_formed};
 ghost use Rattle.code.specs.Read.{is_command_pair};
 
-use crate::sender::{Owed, Repeats, Sender};
+use crate::sender::{Repeats, Sender};
 use code::Pair;
 use code::parity::{check_odd_parity, strip_parity};
 
@@ -11,24 +11,14 @@ use code::parity::{check_odd_parity, strip_parity};
 pub(crate) fn is_command(pair: Pair) -> bool
     ensures { result ≡ is_command_pair pair }
 {
-    let first = strip_parity(pair.0);
-    if first < 0x10 {
-        return false;
-    }
-    first <= 0x1F
+    matches!(strip_parity(pair.0), 0x10..=0x1F)
 }
 
 // Whether a pair may be owed: a command pair of odd parity.
 pub(crate) fn may_be_owed(pair: Pair) -> bool
     ensures { result ≡ may_be_owed pair }
 {
-    if !check_odd_parity(pair.0) {
-        return false;
-    }
-    if !check_odd_parity(pair.1) {
-        return false;
-    }
-    is_command(pair)
+    check_odd_parity(pair.0) && check_odd_parity(pair.1) && is_command(pair)
 }
 
 impl Repeats {
@@ -36,25 +26,16 @@ impl Repeats {
     pub(crate) fn is_well_formed(self) -> bool
         ensures { result ≡ repeats_fit self }
     {
-        let owed = self.owed;
-        match owed {
-            Owed::Absent => true,
-            Owed::Repeat(pair) => may_be_owed(pair),
-        }
+        self.owed.is_none_or(may_be_owed)
     }
 }
 
 impl Sender {
     // Whether refusal 12 does not apply.
     #[tactic(auto, unfolding(crate::specs::Sender::well_formed))]
-    pub fn is_well_formed(self) -> bool
-        ensures { result ≡ well_formed self }
+    pub fn is_well_formed(&self) -> bool
+        ensures { result ≡ well_formed self.now }
     {
-        let queue = self.queue;
-        if !queue.is_well_formed() {
-            return false;
-        }
-        let repeats = self.repeats;
-        repeats.is_well_formed()
+        self.queue.is_well_formed() && self.repeats.is_well_formed()
     }
 }

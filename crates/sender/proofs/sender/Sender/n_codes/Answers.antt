@@ -13,5 +13,5 @@ returns-then-not-is_well_formed c =
 
 pub returns : goal.returns
 returns c =
-    ap {B = Outcome ℕ × Sender} (λ (r : Outcome ℕ × Queue). (r.0, c.args.self)) c.n_codes-counted.ensures
+    ap {B = Outcome ℕ × Sender} (λ (r : Outcome ℕ × Queue). (r.0, c.args.self)) c.n_codes-answer.ensures
     ∙ count_is_the_queue's c.args.self (sym c.if-not-is_well_formed.ensures)
