@@ -1,6 +1,7 @@
 -- What is sent: the queue's pairs in order, each text pair once and each command pair twice in a row, but for a repeat
 -- that is still owed. And every pair of the queue has odd parity.
 -- Assumes nothing.
+use Rattle.std.specs.Prelude.{None, Option, Some}
 use mathlib.Core.Bool.{Bool, true, false, cond, not}
 use mathlib.Core.List.{List, [], ◌∷◌, ◌++◌, append_assoc, append-nil}
 use mathlib.Core.Path.{◌≡◌, refl, ap, ap₂, sym, subst, ◌∙◌}
@@ -28,8 +29,6 @@ use Rattle.sender.specs.Good.{Good}
 use Rattle.agreement.specs.OneByOne.{AllOdd, IsOdd}
 use Rattle.sender.specs.Sender.{send_sender, view}
 use Rattle.sender.specs.Sending.{Sending, Source, ahead, owed_pairs, pops, repeats_after, send, send_from, source, source_by, still_owed}
-use Rattle.sender.specs.declared.sender.Owed.{Owed}
-use Rattle.sender.specs.declared.sender.Owed.TheVariants as owed
 use Rattle.sender.specs.declared.sender.Repeats.{Repeats}
 use Rattle.sender.specs.declared.sender.Sender.{Sender}
 
@@ -43,9 +42,9 @@ twice p ps true e = rw e refl
 twice p ps false e = rw e refl
 
 -- one send before what is sent later
-one_send : (o : Owed) (q : Queue) (later ps : List Pair) → queue.well_formed q ≡ true → later ≡ still_owed (send_from (source_by o) (queue.view q)).next.repeats ++ doubled ps → (send_from (source_by o) (queue.view q)).pair ∷ later ≡ owed_pairs o ++ doubled (from_queue (source_by o) q ++ ps)
-one_send (owed.Repeat p) q later ps formed e = ap (λ (l : List Pair). p ∷ l) e
-one_send owed.Absent q later ps formed e =
+one_send : (o : Option Pair) (q : Queue) (later ps : List Pair) → queue.well_formed q ≡ true → later ≡ still_owed (send_from (source_by o) (queue.view q)).next.repeats ++ doubled ps → (send_from (source_by o) (queue.view q)).pair ∷ later ≡ owed_pairs o ++ doubled (from_queue (source_by o) q ++ ps)
+one_send (Some p) q later ps formed e = ap (λ (l : List Pair). p ∷ l) e
+one_send None q later ps formed e =
     let p = (pop (queue.view q)).pair in
     ap (λ (l : List Pair). p ∷ l) e
     ∙ twice p ps (is_command_pair p) refl
@@ -86,16 +85,16 @@ doubled_by_parts (p ∷ ps) qs =
 
 -- in any run of calls
 pub sent_is_doubled : (calls : List Call) (s : Sender) → Good s → no_reset calls ≡ true → sent_by calls s ++ still_owed (sender_after calls s).repeats ≡ still_owed s.repeats ++ doubled (queue_pairs calls s)
-sent_is_doubled [] s g None = sym (append-nil (still_owed s.repeats))
-sent_is_doubled (c ∷ calls) s g None =
+sent_is_doubled [] s g none = sym (append-nil (still_owed s.repeats))
+sent_is_doubled (c ∷ calls) s g none =
     let next = (on_sender c s).1 in
     let before = still_owed s.repeats in
     let here = in_sends queue_pair (sends_by (on_sender c s).0) s in
     let later = queue_pairs calls next in
     append_assoc (sent_in c s) (sent_by calls next) (still_owed (sender_after calls next).repeats)
-    ∙ ap (λ (l : List Pair). sent_in c s ++ l) (sent_is_doubled calls next (call_stays_good c s g) (both_right (not (is_reset c)) (no_reset calls) None))
+    ∙ ap (λ (l : List Pair). sent_in c s ++ l) (sent_is_doubled calls next (call_stays_good c s g) (both_right (not (is_reset c)) (no_reset calls) none))
     ∙ sym (append_assoc (sent_in c s) (still_owed next.repeats) (doubled later))
-    ∙ ap (λ (l : List Pair). l ++ doubled later) (call_is_doubled c s g (both_left (not (is_reset c)) (no_reset calls) None))
+    ∙ ap (λ (l : List Pair). l ++ doubled later) (call_is_doubled c s g (both_left (not (is_reset c)) (no_reset calls) none))
     ∙ append_assoc before (doubled here) (doubled later)
     ∙ ap (λ (l : List Pair). before ++ l) (sym (doubled_by_parts here later))
 

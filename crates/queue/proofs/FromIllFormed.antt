@@ -28,32 +28,32 @@ call_refused resetting q e stays = let z : ◌≡◌ {A = ℕ} 0 1 = cc in absur
 
 -- calls without a reset among them leave the very same state
 pub unchanged_without_reset : (cs : List Call) (q : Queue) → well_formed q ≡ false → no_reset cs ≡ true → ring_after cs q ≡ q
-unchanged_without_reset [] q e None = refl
-unchanged_without_reset (c ∷ cs) q e None =
-    ap (λ (r : Reply × Queue). ring_after cs r.1) (call_refused c q e (both_left (not (is_reset c)) (no_reset cs) None))
-    ∙ unchanged_without_reset cs q e (both_right (not (is_reset c)) (no_reset cs) None)
+unchanged_without_reset [] q e none = refl
+unchanged_without_reset (c ∷ cs) q e none =
+    ap (λ (r : Reply × Queue). ring_after cs r.1) (call_refused c q e (both_left (not (is_reset c)) (no_reset cs) none))
+    ∙ unchanged_without_reset cs q e (both_right (not (is_reset c)) (no_reset cs) none)
 
 -- and are refused, each of them, whatever comes after
 refused_before : (cs later : List Call) (q : Queue) → well_formed q ≡ false → no_reset cs ≡ true → ring_replies (cs ++ later) q ≡ map ill_formed_reply cs ++ ring_replies later q
-refused_before [] later q e None = refl
-refused_before (c ∷ cs) later q e None =
-    ap (λ (r : Reply × Queue). r.0 ∷ ring_replies (cs ++ later) r.1) (call_refused c q e (both_left (not (is_reset c)) (no_reset cs) None))
-    ∙ ap (λ (l : List Reply). ill_formed_reply c ∷ l) (refused_before cs later q e (both_right (not (is_reset c)) (no_reset cs) None))
+refused_before [] later q e none = refl
+refused_before (c ∷ cs) later q e none =
+    ap (λ (r : Reply × Queue). r.0 ∷ ring_replies (cs ++ later) r.1) (call_refused c q e (both_left (not (is_reset c)) (no_reset cs) none))
+    ∙ ap (λ (l : List Reply). ill_formed_reply c ∷ l) (refused_before cs later q e (both_right (not (is_reset c)) (no_reset cs) none))
 
 pub refused_without_reset : (cs : List Call) (q : Queue) → well_formed q ≡ false → no_reset cs ≡ true → ring_replies cs q ≡ map ill_formed_reply cs
-refused_without_reset cs q e None =
+refused_without_reset cs q e none =
     ap (λ (l : List Call). ring_replies l q) (sym (append-nil cs))
-    ∙ refused_before cs [] q e None
+    ∙ refused_before cs [] q e none
     ∙ append-nil (map ill_formed_reply cs)
 
 -- up to the first reset refusals, from it on the replies of a fresh queue
 pub refused_until_reset : (before later : List Call) (q : Queue) → well_formed q ≡ false → no_reset before ≡ true → ring_replies (before ++ (resetting ∷ later)) q ≡ map ill_formed_reply before ++ (to_reset ∷ ring_replies later fresh_ring)
-refused_until_reset before later q e None = refused_before before (resetting ∷ later) q e None
+refused_until_reset before later q e none = refused_before before (resetting ∷ later) q e none
 
 -- which are the empty list's
 pub as_the_empty_list_from_reset : (before later : List Call) (q : Queue) → well_formed q ≡ false → no_reset before ≡ true → ring_replies (before ++ (resetting ∷ later)) q ≡ map ill_formed_reply before ++ (to_reset ∷ list_replies later empty)
-as_the_empty_list_from_reset before later q e None =
-    refused_until_reset before later q e None
+as_the_empty_list_from_reset before later q e none =
+    refused_until_reset before later q e none
     ∙ ap (λ (l : List Reply). map ill_formed_reply before ++ (to_reset ∷ l)) (ring_answers_as_the_list later fresh_ring fresh_good)
 
 -- of any state at all: after a reset the state, and its history, are what they would be from a fresh queue on

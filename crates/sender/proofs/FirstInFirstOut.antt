@@ -40,13 +40,13 @@ still_counts true before stays = absurd (true≢false (sym stays))
 still_counts false before stays = refl
 
 pub taken_by_sends : (cs : List Call) (h : History) → no_reset cs ≡ true → (recorded_all cs h).took ≡ h.took ++ in_calls taken_by cs h.sender
-taken_by_sends [] h None = sym (append-nil h.took)
-taken_by_sends (c ∷ cs) h None =
+taken_by_sends [] h none = sym (append-nil h.took)
+taken_by_sends (c ∷ cs) h none =
     let s = h.sender in
     let taken = in_sends taken_by (sends_by (on_sender c s).0) s in
     let later = in_calls taken_by cs (on_sender c s).1 in
-    taken_by_sends cs (recorded c h) (both_right (not (is_reset c)) (no_reset cs) None)
-    ∙ ap (λ (l : List Code). (l ++ taken) ++ later) (still_counts (is_reset c) h.took (both_left (not (is_reset c)) (no_reset cs) None))
+    taken_by_sends cs (recorded c h) (both_right (not (is_reset c)) (no_reset cs) none)
+    ∙ ap (λ (l : List Code). (l ++ taken) ++ later) (still_counts (is_reset c) h.took (both_left (not (is_reset c)) (no_reset cs) none))
     ∙ append_assoc h.took taken later
 
 -- a call that is no reset keeps the order; a reset begins anew
