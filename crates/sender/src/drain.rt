@@ -14,16 +14,16 @@ pub enum DrainError {
 }
 
 impl Sender {
-    // The writer of pairs: fills a part of the output from its beginning, until idle, out of room or at the limit, and
-    // says how many sends it made.
-    pub(crate) fn write_pairs(&mut self, part: &mut [u8], limit: usize) -> usize
-        requires { well_formed self.now ≡ true }
-        ensures { (result, self.new, part.new) ≡ filling self.old part.old limit }
+    // The writer of pairs: fills a part of the output from its beginning, until idle, out of room or at the limit. Gives
+    // the count of sends and the sender after them.
+    pub(crate) fn write_pairs(mut self, part: &mut [u8], limit: usize) -> (usize, Sender)
+        requires { well_formed self ≡ true }
+        ensures { (result.0, result.1, part.new) ≡ filling self part.old limit }
     {
         let most = limit.min(part.len() / 2);
         for sends in 0..most {
             if self.has_nothing() {
-                return sends;
+                return (sends, self);
             }
             let step = self.step();
             part[2 * sends] = step.pair.0;
@@ -33,13 +33,13 @@ impl Sender {
             self.queue.held = step.held;
             self.repeats = step.repeats;
         }
-        most
+        (most, self)
     }
 
     // Writes whole pairs into the output from the start on, and gives the count of sends. A refusal changes no byte and
     // no state.
     pub fn drain(
-        mut self,
+        self,
         out: &mut [u8],
         start: usize,
         limit: usize,
@@ -52,7 +52,7 @@ impl Sender {
         if out.len() < start {
             return (self, Err(DrainError::StartPastEnd));
         }
-        let sends = self.write_pairs(&mut out[start..], limit);
-        (self, Ok(sends))
+        let (sends, sender) = self.write_pairs(&mut out[start..], limit);
+        (sender, Ok(sends))
     }
 }

@@ -12,4 +12,4 @@ returns-then-out-start c =
 
 pub returns : goal.returns
 returns c =
-    lent_part_is_drained c.args.self c.args.out.now c.args.start c.args.limit c.write_pairs-sends.result c.write_pairs-sends.new.self c.write_pairs-sends.new.part (sym c.if-not-is_well_formed.ensures) c.if-out-start.false c.write_pairs-sends.ensures
+    lent_part_is_drained c.args.self c.args.out.now c.args.start c.args.limit c.write_pairs-sends.result.0 c.write_pairs-sends.result.1 c.write_pairs-sends.new.part (sym c.if-not-is_well_formed.ensures) c.if-out-start.false c.write_pairs-sends.ensures
