@@ -31,7 +31,7 @@ module _ {S : Type 0} (after : S → List ℕ → S) (got error : ℤ) (fits : S
 
   -- as many bytes as it answered, but no more than the input has
   pub of_bytes : (clamped : ℤ → ℕ → ℕ) → ((k n : ℕ) → clamped (pos k) n ≡ min k n) → (failed : Bool) (next : S) (n : ℕ) → lt_z answered (pos 0) ≡ false → n ≡ clamped answered (length input) → (failed ≡ false → next ≡ after begun (take n input)) → AfterRead after got error begun input failed next
-  of_bytes clamped clamps failed next n Some count leaves = by_the_answer failed next (of answered Some count)
+  of_bytes clamped clamps failed next n some count leaves = by_the_answer failed next (of answered some count)
     where
       of : (z : ℤ) → lt_z z (pos 0) ≡ false → n ≡ clamped z (length input) → AfterRead after z error begun input failed next
       of (pos k) e count =
@@ -44,7 +44,7 @@ module _ {S : Type 0} (after : S → List ℕ → S) (got error : ℤ) (fits : S
   of_as_many = of_bytes (λ (z : ℤ) (m : ℕ). min (nat_abs z) m) (λ k m. refl)
 
   pub of_nothing : SFits w32 error → lt_z answered (pos 0) ≡ true → AfterRead after got error begun input (not (eqb (of_z w32 error) 4)) begun
-  of_nothing small None = by_the_answer _ begun (of answered None)
+  of_nothing small none = by_the_answer _ begun (of answered none)
     where
       of : (z : ℤ) → lt_z z (pos 0) ≡ true → AfterRead after z error begun input (not (eqb (of_z w32 error) 4)) begun
       of (pos k) e = absurd (omega (arith, ltb-true k 0 e))

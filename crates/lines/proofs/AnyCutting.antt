@@ -5,7 +5,7 @@
 use mathlib.Core.Bool.{Bool, true, false, cond, true≢false}
 use mathlib.Core.List.{List, [], ◌∷◌, ◌++◌, append_assoc, append-nil}
 use mathlib.Core.Logic.{⊎_elim}
-use Rattle.std.specs.Prelude.{Option}
+use Rattle.std.specs.Prelude.{Option, None, Some}
 use mathlib.Core.Path.{◌≡◌, refl, ap, ap₂, sym, subst, ◌∙◌}
 use Prim.Native.Nat.{ℕ, zero, suc, ◌+◌, ◌-◌, ◌≤◌, ◌<◌}
 use native.Mathlib.Omega.{arith}
@@ -24,8 +24,6 @@ use Rattle.lines.specs.Listing.{ends_refused, list_from, listing, most_pairs, re
 use Rattle.lines.specs.Pieces.{Piece, absorbed, after_pair, after_byte, counted, end_by, ended_listing, ending, flushed_only, fresh_listing, is_done, one_more, piece_of, refused_by, stops, with_byte, with_half, with_line}
 use Rattle.lines.specs.Words.{last_line, line, line_of, refused_words}
 use Rattle.lines.specs.declared.line.Line.{Line}
-use Rattle.lines.specs.declared.listing.Half.{Half}
-use Rattle.lines.specs.declared.listing.Half.TheVariants as half
 use Rattle.lines.specs.declared.listing.Listing.{Listing}
 use Rattle.receiver.specs.Receiver.{step}
 use Rattle.receiver.specs.declared.state.Cea608State.{Cea608State}
@@ -80,9 +78,9 @@ at_the_limit s k q a (b ∷ rest) e = rw e refl
 
 -- a byte, where nothing waits: what is still to write is the same
 module _ (l : Listing) (on : l.ended ≡ false) (o : Open l) (quiet : pending l.line ≡ []) where
-  limit_says : (h : Half) (a : ℕ) (rest : List ℕ) → leb most_pairs l.pairs ≡ true → list_from l.receiver l.pairs l.refused (half_bytes h ++ (a ∷ rest)) ≡ ends_refused 10 l.pairs l.refused
-  limit_says half.Absent a rest e = at_the_limit l.receiver l.pairs l.refused a rest e
-  limit_says (half.Byte x) a rest e = at_the_limit l.receiver l.pairs l.refused x (a ∷ rest) e
+  limit_says : (h : Option ℕ) (a : ℕ) (rest : List ℕ) → leb most_pairs l.pairs ≡ true → list_from l.receiver l.pairs l.refused (half_bytes h ++ (a ∷ rest)) ≡ ends_refused 10 l.pairs l.refused
+  limit_says None a rest e = at_the_limit l.receiver l.pairs l.refused a rest e
+  limit_says (Some x) a rest e = at_the_limit l.receiver l.pairs l.refused x (a ∷ rest) e
 
   pair_says : (x a : ℕ) (rest : List ℕ) → l.pairs < most_pairs → list_from l.receiver l.pairs l.refused (x ∷ a ∷ rest) ≡ says_yet (after_pair l (step l.receiver (pair x a))) rest
   pair_says x a rest less =
@@ -95,10 +93,10 @@ module _ (l : Listing) (on : l.ended ≡ false) (o : Open l) (quiet : pending l.
       (ap₂ (λ (xs : List ℕ) (q : ℕ). xs ++ list_from r.1 (l.pairs + 1) q rest) (sym waits) (sym (counts r.0 l.refused (omega (arith, o.refused, less))))
       ∙ sym (open_says (after_pair l r) rest on))
 
-  byte_says : (h : Half) (a : ℕ) (rest : List ℕ) → leb most_pairs l.pairs ≡ false → list_from l.receiver l.pairs l.refused (half_bytes h ++ (a ∷ rest)) ≡ says_yet (with_byte l h a) rest
-  byte_says half.Absent a rest e =
+  byte_says : (h : Option ℕ) (a : ℕ) (rest : List ℕ) → leb most_pairs l.pairs ≡ false → list_from l.receiver l.pairs l.refused (half_bytes h ++ (a ∷ rest)) ≡ says_yet (with_byte l h a) rest
+  byte_says None a rest e =
       sym (open_says (with_half l a) rest on ∙ ap (λ (xs : List ℕ). xs ++ list_from l.receiver l.pairs l.refused (a ∷ rest)) quiet)
-  byte_says (half.Byte x) a rest e = pair_says x a rest (leb-false most_pairs l.pairs e)
+  byte_says (Some x) a rest e = pair_says x a rest (leb-false most_pairs l.pairs e)
 
   absorbed_by : (t : Bool) → leb most_pairs l.pairs ≡ t → (a : ℕ) (rest : List ℕ) → list_from l.receiver l.pairs l.refused (half_bytes l.half ++ (a ∷ rest)) ≡ says_yet (cond t (refused_by 10 l empty_line) (with_byte l l.half a)) rest
   absorbed_by true e a rest =
@@ -141,9 +139,9 @@ pair_open l o x a less =
       short = omega (arith, holds.len, fits);
     }
 
-byte_open : (l : Listing) → Open l → (h : Half) (a : ℕ) → leb most_pairs l.pairs ≡ false → Open (with_byte l h a)
-byte_open l o half.Absent a e = half_open l o a
-byte_open l o (half.Byte x) a e = pair_open l o x a (leb-false most_pairs l.pairs e)
+byte_open : (l : Listing) → Open l → (h : Option ℕ) (a : ℕ) → leb most_pairs l.pairs ≡ false → Open (with_byte l h a)
+byte_open l o None a e = half_open l o a
+byte_open l o (Some x) a e = pair_open l o x a (leb-false most_pairs l.pairs e)
 
 absorbed_sound : (l : Listing) → Open l → (a : ℕ) → Sound (absorbed l a)
 unfolding absorbed
@@ -171,7 +169,7 @@ flushed_open l room o = by_room (ltb room (waiting l.line)) refl
       ahead = omega (arith, ltb-true room (waiting l.line) more, waiting_is l.line o.begun.inside);
       short = o.short;
     }
-    by_room false None = record {
+    by_room false none = record {
       pairs = o.pairs;
       refused = o.refused;
       begun = empty_begun;
@@ -181,7 +179,7 @@ flushed_open l room o = by_room (ltb room (waiting l.line)) refl
 
 -- nothing waits once all of it was written
 all_written : (l : Line) (room : ℕ) → ltb room (waiting l) ≡ false → pending (unwritten l room) ≡ []
-all_written l room None = ap pending (empty_where_no_more l room None)
+all_written l room none = ap pending (empty_where_no_more l room none)
 
 -- one piece: what was still to write is what the piece wrote, then what is still to write with the input not taken
 abbrev Goes : Listing → List ℕ → List ℕ → Piece → Type 0
@@ -230,11 +228,11 @@ a_piece_says_the_same (a ∷ rest) l sound more room =
     (absorbed_sound (with_line l (unwritten l.line room)) (flushed_open l room (sound on)) a) more (room - length (writes l.line room)))
 
 -- the end of the input keeps what is still to write
-end_by_lem : (l : Listing) → Open l → (h : Half) → pending l.line ++ list_from l.receiver l.pairs l.refused (half_bytes h ++ []) ≡ says_yet (end_by l h) []
-end_by_lem l o half.Absent =
+end_by_lem : (l : Listing) → Open l → (h : Option ℕ) → pending l.line ++ list_from l.receiver l.pairs l.refused (half_bytes h ++ []) ≡ says_yet (end_by l h) []
+end_by_lem l o None =
     let short = last_line_short l.pairs l.refused (omega (arith, o.pairs)) (omega (arith, o.pairs, o.refused)) in
     sym (ended_says l l.line o.begun o.ahead o.short [] l.refused [] short)
-end_by_lem l o (half.Byte x) = by_limit (leb most_pairs l.pairs)
+end_by_lem l o (Some x) = by_limit (leb most_pairs l.pairs)
   where
     refused_by_lem : (n : ℕ) → length (refused_words n) ≤ 10 → pending l.line ++ ends_refused n l.pairs l.refused ≡ says_yet (refused_by n l l.line) []
     refused_by_lem n short =
@@ -310,10 +308,10 @@ end_sound : (l : Listing) → Sound (ended_listing l)
 unfolding ended_listing
 end_sound l = by_ended l.ended refl l.half
   where
-    by_ended : (t : Bool) → l.ended ≡ t → (h : Half) → Sound (cond t l (end_by l h))
+    by_ended : (t : Bool) → l.ended ≡ t → (h : Option ℕ) → Sound (cond t l (end_by l h))
     by_ended true e h on = absurd (true≢false (sym e ∙ on))
-    by_ended false e half.Absent on = absurd (true≢false on)
-    by_ended false e (half.Byte x) on = absurd (true≢false on)
+    by_ended false e None on = absurd (true≢false on)
+    by_ended false e (Some x) on = absurd (true≢false on)
 
 end_kept : (bytes : List ℕ) (r : Run) → Finished r → Kept bytes r → Kept bytes (at_end r)
 end_kept bytes r finished k = record {

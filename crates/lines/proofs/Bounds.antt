@@ -13,8 +13,6 @@ use Rattle.code.specs.Characters.{points}
 use Rattle.code.specs.MidRow.{is_underlined, mid_row_number}
 use Rattle.code.specs.Outcome.{Outcome, answer, refused}
 use Rattle.code.specs.Preamble.{style_of}
-use Rattle.code.specs.declared.character.Character.{Character}
-use Rattle.code.specs.declared.character.Character.TheVariants as character
 use Rattle.event.specs.declared.event.Cea608.{Cea608}
 use Rattle.event.specs.declared.event.Cea608.TheVariants as event
 use Rattle.event.specs.declared.mode.Mode.{Mode}
@@ -53,9 +51,9 @@ eight_digits n less =
     let rest : List ℕ = 10000000 ∷ 1000000 ∷ 100000 ∷ 10000 ∷ 1000 ∷ 100 ∷ 10 ∷ [] in
     rw (lt-leb 1000000000 n (omega (arith, less))) (not_reached 100000000 rest n less)
 
-character_short : (c : Character) → length (character_word c) ≤ 4
-character_short character.Absent = omega arith
-character_short (character.Point p) = omega arith
+character_short : (c : Option ℕ) → length (character_word c) ≤ 4
+character_short None = omega arith
+character_short (Some p) = omega arith
 
 mode_short : (m : Mode) → length (mode_word m) ≤ 5
 mode_short mode.PopOn = omega arith

@@ -7,7 +7,7 @@ use Prim.Native.Nat.{ℕ, ◌+◌, ◌/◌, ◌%◌, ◌≤◌, ◌<◌}
 use native.Mathlib.Omega.{arith}
 use borrow.Author.Tests.{le-leb, leb-false, leb-true, lt-leb}
 use lib.Dec.{leb}
-use Rattle.lines.specs.Words.{at_place, decimal, hex_digit, up_to_four}
+use Rattle.lines.specs.Words.{at_place, decimal, hex_digit, low_four, up_to_four}
 
 -- two tests that hold together are one
 same_test : (a b x y : ℕ) → (a ≤ b → x ≤ y) → (x ≤ y → a ≤ b) → leb a b ≡ leb x y
@@ -40,18 +40,10 @@ unfolding decimal
 short_number n less =
     rw (lt-leb 1000000000 n (omega (arith, less)), lt-leb 100000000 n (omega (arith, less)), lt-leb 10000000 n (omega (arith, less)), lt-leb 1000000 n (omega (arith, less)), lt-leb 100000 n (omega (arith, less)), lt-leb 10000 n (omega (arith, less))) refl
 
--- the four digits of the rest
-abbrev pub low_four : ℕ → List ℕ
-low_four m = (0x30 + m / 1000 % 10) ∷ (0x30 + m / 100 % 10) ∷ (0x30 + m / 10 % 10) ∷ (0x30 + m % 10) ∷ []
-
-pub long_number : (n : ℕ) → 10000 ≤ n → n < 100000000 → up_to_four (n / 10000) ++ low_four (n % 10000) ≡ decimal n
+pub long_number : (n : ℕ) → 10000 ≤ n → n < 100000000 → up_to_four (n / 10000) ++ low_four n ≡ decimal n
 unfolding decimal
 long_number n from less =
-    let e3 : n % 10000 / 1000 % 10 ≡ n / 1000 % 10 = omega arith in
-    let e2 : n % 10000 / 100 % 10 ≡ n / 100 % 10 = omega arith in
-    let e1 : n % 10000 / 10 % 10 ≡ n / 10 % 10 = omega arith in
-    let e0 : n % 10000 % 10 ≡ n % 10 = omega arith in
-    simp (append_assoc, seventh n, sixth n, fifth n, e3, e2, e1, e0, lt-leb 1000000000 n (omega (arith, less)), lt-leb 100000000 n (omega (arith, less)), le-leb 10000 n (omega (arith, from)), le-leb 1000 n (omega (arith, from)), le-leb 100 n (omega (arith, from)), le-leb 10 n (omega (arith, from)))
+    simp (append_assoc, seventh n, sixth n, fifth n, lt-leb 1000000000 n (omega (arith, less)), lt-leb 100000000 n (omega (arith, less)), le-leb 10000 n (omega (arith, from)), le-leb 1000 n (omega (arith, from)), le-leb 100 n (omega (arith, from)), le-leb 10 n (omega (arith, from)))
 
 -- a remainder by 16 is its own remainder
 pub once : (n : ℕ) → hex_digit (n % 16 % 16) ≡ hex_digit (n % 16)

@@ -2,6 +2,7 @@
 -- room for a byte in each call, finishes: after as many calls as there are bytes to write, and one. So does a stream that is
 -- read in blocks.
 -- Assumes nothing.
+use Rattle.std.specs.Prelude.{Option, None, Some}
 use mathlib.Core.Bool.{Bool, true, false, cond}
 use mathlib.Core.List.{List, [], ◌∷◌, ◌++◌, append_assoc, append-nil, flatten}
 use mathlib.Core.Logic.{⊎_elim, inl, inr}
@@ -22,13 +23,11 @@ use Rattle.lines.specs.Loops.{Calls, Completes, CompletesInBlocks, SomeRoom, aft
 use Rattle.lines.specs.Loops as loops
 use Rattle.lines.specs.Pieces.{Piece, Read, end_by, ended_listing, fresh_listing, is_done, piece_of, read_listing, read_outcome, whole_piece, with_line, written_out}
 use Rattle.lines.specs.declared.line.Line.{Line}
-use Rattle.lines.specs.declared.listing.Half.{Half}
-use Rattle.lines.specs.declared.listing.Half.TheVariants as half
 use Rattle.lines.specs.declared.listing.Listing.{Listing}
 use Rattle.lines.specs.declared.listing.Progress.{Progress}
 
 -- what a call promises is one cut
-pub a_call_is_a_cut : (r : Run) (n : ℕ) (output : List ℕ) (p : Progress) (after : List ℕ) → read_outcome p after ≡ read_listing r.listing (take n r.left) output → called p after r ≡ cut_once (record { offered = n; room = length output }) r
+pub a_call_is_a_cut : (r : Run) (n : ℕ) (output : List ℕ) (p : Listing × Progress) (after : List ℕ) → read_outcome p after ≡ read_listing r.listing (take n r.left) output → called p after r ≡ cut_once (record { offered = n; room = length output }) r
 unfolding read_listing
 a_call_is_a_cut r n output p after promised =
     let piece = piece_of r.listing (take n r.left) (length output) in
@@ -80,21 +79,21 @@ module _ (r : Run) (room : ℕ) where
   text_of_both = sym (length-append one.text rest.text) ∙ ap (λ (p : Piece). length p.text) (calls_add_up r.left r.listing room)
 
   fewer_left : 0 < room → (k : ℕ) → calls_left r ≤ suc (suc k) → calls_left (after_piece r one) ≤ suc k
-  fewer_left Some k few = by_room (ltb (length one.text) room) refl
+  fewer_left some k few = by_room (ltb (length one.text) room) refl
     where
       by_room : (t : Bool) → ltb (length one.text) room ≡ t → calls_left (after_piece r one) ≤ suc k
       by_room true less =
           let all = through_if_not_full r.left r.listing room (ltb-true (length one.text) room less) in
           omega (arith, text_of_both, ap (λ (p : Piece). length p.text) all)
-      by_room false full = omega (arith, text_of_both, few, Some, ltb-false (length one.text) room full)
+      by_room false full = omega (arith, text_of_both, few, some, ltb-false (length one.text) room full)
 
 -- from a state of any contents, with any input
 pub enough_calls : (rooms : List ℕ) (r : Run) → SomeRoom rooms → calls_left r ≤ length rooms → call_all rooms r ≡ through r
-enough_calls [] r Some few = absurd (omega (arith, few))
-enough_calls (room ∷ []) r Some few =
+enough_calls [] r some few = absurd (omega (arith, few))
+enough_calls (room ∷ []) r some few =
     all_offered r room
     ∙ ap (after_piece r) (with_room_for_all r.left r.listing room (omega (arith, few, some.0)))
-enough_calls (room ∷ next ∷ rooms) r Some few =
+enough_calls (room ∷ next ∷ rooms) r some few =
     ap (call_all (next ∷ rooms)) (all_offered r room)
     ∙ enough_calls (next ∷ rooms) (after_piece r (one r room)) some.1 (fewer_left r room some.0 (length rooms) few)
     ∙ through_still r room
@@ -103,10 +102,10 @@ end_is_ended : (l : Listing) → (ended_listing l).ended ≡ true
 unfolding ended_listing
 end_is_ended l = by_ended l.ended refl l.half
   where
-    by_ended : (t : Bool) → l.ended ≡ t → (h : Half) → (cond t l (end_by l h)).ended ≡ true
+    by_ended : (t : Bool) → l.ended ≡ t → (h : Option ℕ) → (cond t l (end_by l h)).ended ≡ true
     by_ended true e h = e
-    by_ended false e half.Absent = refl
-    by_ended false e (half.Byte x) = refl
+    by_ended false e None = refl
+    by_ended false e (Some x) = refl
 
 -- of a whole input: in one call, and one more after its end
 module _ (bytes : List ℕ) where
@@ -158,8 +157,8 @@ module _ (bytes : List ℕ) where
 
   -- more calls than the text has bytes are enough, and as many again after the end
   pub a_loop_finishes : (rooms ends : List ℕ) → SomeRoom rooms → SomeRoom ends → length (listing bytes) < length rooms → length (listing bytes) < length ends → Completes bytes (call_all rooms start) (call_all ends (closed (call_all rooms start)))
-  a_loop_finishes rooms ends Some then_some many then_many =
-      let read = enough_calls rooms start Some (omega (arith, many, lengths)) in
+  a_loop_finishes rooms ends some then_some many then_many =
+      let read = enough_calls rooms start some (omega (arith, many, lengths)) in
       let last = enough_calls ends (closed (through start)) then_some (omega (arith, then_many, lengths)) in
       subst (λ (r : Run). Completes bytes r (call_all ends (closed r))) (sym read)
       (record {
@@ -200,5 +199,5 @@ read_in_blocks blocks =
 
 -- a block that has bytes does not end the stream
 pub after_some_bytes : (l : Listing) (block : List ℕ) → 0 < length block → after_block l block ≡ (whole_piece l block).next
-after_some_bytes l [] Some = absurd (omega (arith, Some))
-after_some_bytes l (a ∷ rest) Some = refl
+after_some_bytes l [] some = absurd (omega (arith, some))
+after_some_bytes l (a ∷ rest) some = refl

@@ -120,5 +120,5 @@ written_and_waiting l room = by_room (ltb room (waiting l)) refl
         let left : waiting l - room ≡ waiting (record { bytes = l.bytes; at = l.at + room; len = l.len }) = omega arith in
         cut_at l.bytes l.at (waiting l) room (omega (arith, less))
         ∙ ap (λ (k : ℕ). writes l room ++ bytes_from l.bytes (l.at + room) k) left
-    by_room false None =
-        sym (append-nil (writes l room) ∙ take_all room (pending l) (omega (arith, ltb-false room (waiting l) None, from_length l.bytes l.at (waiting l))))
+    by_room false none =
+        sym (append-nil (writes l room) ∙ take_all room (pending l) (omega (arith, ltb-false room (waiting l) none, from_length l.bytes l.at (waiting l))))

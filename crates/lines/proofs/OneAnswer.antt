@@ -9,7 +9,7 @@ use Rattle.lines.specs.Pieces.{read_outcome}
 use Rattle.lines.specs.declared.listing.Listing.{Listing}
 use Rattle.lines.specs.declared.listing.Progress.{Progress}
 
-pub read_injective : Injective (λ (r : Progress × List ℕ). read_outcome r.0 r.1)
+pub read_injective : Injective (λ (r : (Listing × Progress) × List ℕ). read_outcome r.0 r.1)
 read_injective r s e =
-    ap {B = Progress × List ℕ}
-    (λ (w : ℕ × ℕ × Listing × List ℕ). (record { taken = w.0; written = w.1; listing = w.2 }, w.3)) e
+    ap {B = (Listing × Progress) × List ℕ}
+    (λ (w : ℕ × ℕ × Listing × List ℕ). ((w.2, record { taken = w.0; written = w.1 }), w.3)) e

@@ -18,9 +18,9 @@ use Rattle.lines.specs.declared.listing.Listing.{Listing}
 
 -- where something waits and there is room, something is written
 some_bytes : (bytes : List ℕ) (at n room : ℕ) → 0 < n → 0 < room → 0 < length (take room (bytes_from bytes at n))
-some_bytes bytes at zero room Some fits = absurd (omega (arith, Some))
-some_bytes bytes at (suc n) zero Some fits = absurd (omega (arith, fits))
-some_bytes bytes at (suc n) (suc room) Some fits = omega arith
+some_bytes bytes at zero room some fits = absurd (omega (arith, some))
+some_bytes bytes at (suc n) zero some fits = absurd (omega (arith, fits))
+some_bytes bytes at (suc n) (suc room) some fits = omega arith
 
 some_written : (l : Line) (room : ℕ) → has_more l ≡ true → 0 < room → 0 < length (writes l room)
 some_written l room more fits = some_bytes l.bytes l.at (waiting l) room (ltb-true 0 (waiting l) more) fits

@@ -3,47 +3,32 @@
 -- Assumes nothing.
 use mathlib.Core.Bool.{Bool, true, false, cond}
 use mathlib.Core.List.{List, [], ◌∷◌, ◌++◌, append_assoc}
-use mathlib.Core.Path.{◌≡◌, refl, ap, sym, ◌∙◌}
-use Prim.Native.Nat.{ℕ, suc, ◌+◌, ◌≤◌, ◌<◌}
+use mathlib.Core.Path.{◌≡◌, refl, ap, ap₂, subst, sym, ◌∙◌}
+use Prim.Native.Nat.{ℕ, suc, ◌+◌, ◌-◌, ◌≤◌, ◌<◌, min}
 use native.Mathlib.Omega.{arith}
-use borrow.Author.Tests.{lt-leb}
+use borrow.Author.Tests.{le-leb, leb-false, leb-true, lt-leb}
 use lib.Dec.{leb}
-use lib.ListN.{drop, length, length-set, set, take}
-use lib.Seq.{drop-drop, sets, sets-eq}
-use Rattle.lines.specs.Line.{over}
-use Rattle.lines.specs.Put.{Placed, put_all, put_one}
-use Rattle.lines.specs.Words.{decimal}
+use lib.ListN.{drop, drop_of_length-le, length, length-set, set, take, take-append-drop}
+use lib.Seq.{drop-drop, length-take-le, sets, sets-eq}
+use Rattle.lines.specs.Line.{over, says}
+use Rattle.lines.specs.Put.{Placed, Puts, placed, put_all, put_one}
+use Rattle.lines.specs.declared.line.Line.{Line}
+use Rattle.lines.specs.declared.put.Writer.{Writer}
 
 infixr 5 ◌then◌
--- the place and the memory once these bytes are put from a place on
-pub data Put (s : Placed) (bytes : List ℕ) (next : Placed) : Type 0 where
-  is : next ≡ put_all s bytes → Put s bytes next
-
-pub chain : {s next : Placed} {bytes : List ℕ} → Put s bytes next → next ≡ put_all s bytes
-chain (is e) = e
-
 pub put_parts : (s : Placed) (xs ys : List ℕ) → put_all s (xs ++ ys) ≡ put_all (put_all s xs) ys
 put_parts s [] ys = refl
 put_parts s (x ∷ xs) ys = put_parts (put_one s x) xs ys
 
-pub ◌then◌ : {s t next : Placed} {xs ys : List ℕ} → Put s xs t → Put t ys next → Put s (xs ++ ys) next
-◌then◌ {s} {t} {next} {xs} {ys} (is first) (is rest) = is (rest ∙ ap (λ (k : Placed). put_all k ys) first ∙ sym (put_parts s xs ys))
+pub ◌then◌ : {w m next : Writer} {xs ys : List ℕ} → Puts w xs m → Puts m ys next → Puts w (xs ++ ys) next
+◌then◌ {w} {m} {next} {xs} {ys} first rest = record {
+  same_memory = rest.same_memory ∙ first.same_memory;
+  put = rest.put ∙ ap (λ (s : Placed). put_all s ys) first.put ∙ sym (put_parts (placed w) xs ys);
+}
 
--- the links of a chain: a word, a byte, and a digit or a number that was found to be this one
-pub word : (s : Placed) (bytes : List ℕ) {next : Placed} → next ≡ put_all s bytes → Put s bytes next
-word s bytes e = is e
-
-pub byte : (s : Placed) (b : ℕ) {next : Placed} → next ≡ put_one s b → Put s (b ∷ []) next
-byte s b e = is e
-
-pub digit : (s : Placed) {d b : ℕ} {next : Placed} → d ≡ b → next ≡ put_one s d → Put s (b ∷ []) next
-digit s same e = is (e ∙ ap (put_one s) same)
-
-pub number : (s : Placed) {d n : ℕ} {next : Placed} → d ≡ n → next ≡ put_all s (decimal d) → Put s (decimal n) next
-number s same e = is (e ∙ ap (λ (k : ℕ). put_all s (decimal k)) same)
-
-pub same_word : (s : Placed) {ds bs : List ℕ} {next : Placed} → ds ≡ bs → next ≡ put_all s ds → Put s bs next
-same_word s same e = is (e ∙ ap (put_all s) same)
+-- the same where the bytes were found to be these
+pub same_bytes : {w next : Writer} {xs ys : List ℕ} → xs ≡ ys → Puts w xs next → Puts w ys next
+same_bytes {w} {next} e puts = subst (λ (bs : List ℕ). Puts w bs next) e puts
 
 -- the memory stays as long as it was
 pub puts_length : (bs : List ℕ) (s : Placed) → length (put_all s bs).1 ≡ length s.1
@@ -80,6 +65,48 @@ all_places bs at out fits =
     ∙ ap (λ (d : List ℕ). take at out ++ (bs ++ d)) (sym (drop-drop (length bs) at out)))
 
 -- the room that is left after bytes, of which there are at most k
-pub left : {s next : Placed} {bs : List ℕ} (k m : ℕ) → Put s bs next → length bs ≤ k → s.0 + (k + m) ≤ length s.1 → next.0 + m ≤ length next.1
-left {s} {next} {bs} k m (is e) few room =
-    omega (arith, few, room, ap (λ (x : Placed). x.0) (e ∙ all_places bs s.0 s.1 (omega (arith, few, room))), ap (λ (x : Placed). length x.1) e ∙ puts_length bs s)
+pub left : {w next : Writer} {bs : List ℕ} (k m : ℕ) → Puts w bs next → length bs ≤ k → w.at + (k + m) ≤ length w.out.now → next.at + m ≤ length next.out.now
+left {w} {next} {bs} k m puts few room =
+    omega (arith, few, room, ap (λ (x : Placed). x.0) (puts.put ∙ all_places bs w.at w.out.now (omega (arith, few, room))), ap (λ (x : Placed). length x.1) puts.put ∙ puts_length bs (placed w))
+
+-- bytes that were copied into their places
+pub copied : (at k : ℕ) (out bs ys : List ℕ) → k ≡ length bs → ys ≡ bs → at + length bs ≤ length out → ◌≡◌ {A = Placed} (at + length bs, take at out ++ (ys ++ drop k (drop at out))) (put_all (at, out) bs)
+copied at k out bs ys how_many same fits =
+    ap₂ {C = Placed} (λ (xs : List ℕ) (n : ℕ). (at + length bs, take at out ++ (xs ++ drop n (drop at out)))) same how_many
+    ∙ sym (all_places bs at out fits)
+
+-- nothing is put where no place is left
+pub none_left : (bs : List ℕ) (s : Placed) → length s.1 ≤ s.0 → put_all s bs ≡ s
+none_left [] s full = refl
+none_left (b ∷ bs) s full =
+    let stays : put_one s b ≡ s = rw (le-leb (length s.1) s.0 full) refl in
+    ap (λ (x : Placed). put_all x bs) stays ∙ none_left bs s full
+
+-- so the bytes of a word that have a place are as good as all of it
+pub as_far_as_room : (word : List ℕ) (count : ℕ) {w next : Writer} → w.at < length w.out.now → count ≡ min (length word) (length w.out.now - w.at) → Puts w (take count word) next → Puts w word next
+as_far_as_room word count {w} {next} inside most puts =
+    same_bytes (take-append-drop count word) (puts then record { same_memory = refl; put = sym (rest (leb (length word) count) refl) })
+  where
+    counted : length (take count word) ≡ count
+    counted = length-take-le count word (omega (arith, most))
+
+    put_is : next.at ≡ w.at + count
+    put_is =
+        ap (λ (x : Placed). x.0) (puts.put ∙ all_places (take count word) w.at w.out.now (omega (arith, counted, most, inside)))
+        ∙ ap (λ (n : ℕ). w.at + n) counted
+
+    as_long : length next.out.now ≡ length w.out.now
+    as_long = ap (λ (x : Placed). length x.1) puts.put ∙ puts_length (take count word) (placed w)
+
+    rest : (t : Bool) → leb (length word) count ≡ t → put_all (placed next) (drop count word) ≡ placed next
+    rest true e = ap (put_all (placed next)) (drop_of_length-le word (leb-true (length word) count e))
+    rest false e =
+        none_left (drop count word) (placed next) (omega (arith, leb-false (length word) count e, most, put_is, as_long, inside))
+
+-- where the memory was taken back from a writer
+pub taken_back : (next : Writer) {memory : List ℕ} {s : Placed} → memory ≡ next.out.now → placed next ≡ s → ◌≡◌ {A = Placed} (next.at, memory) s
+taken_back next e so = ap {B = Placed} (λ (o : List ℕ). (next.at, o)) e ∙ so
+
+-- words after words of a line are one word of it
+pub says_twice : (l : Line) (xs ys : List ℕ) → says (says l xs) ys ≡ says l (xs ++ ys)
+says_twice l xs ys = ap {B = Line} (λ (s : Placed). record { bytes = s.1; at = l.at; len = s.0 }) (sym (put_parts (l.len, l.bytes) xs ys))

@@ -10,14 +10,15 @@ use native.Mathlib.Omega.{arith}
 use lib.Dec.{ltb}
 use lib.ListN.{drop, drop_of_length-le, get_or, length, length-append, length-drop, take}
 use lib.Seq.{drop_at, drop-cons, drop-drop, length_front, length-take-le, take_at, take-nil}
-use Rattle.code.proofs.LentPart.{lent_part, with_part_lem, with_part}
+use Rattle.lines.proofs.Puts.{all_places}
 use Rattle.lines.proofs.Waiting.{empty_where_no_more, fits, left_where_more, nothing_waits}
-use Rattle.lines.specs.Line.{empty_line, flush_outcome, flushed, has_more, over, unwritten, waiting, writes}
-use Rattle.lines.specs.Midway.{comes_to, once_read}
+use Rattle.lines.specs.Line.{Flushes, empty_line, has_more, over, unwritten, waiting, writes}
+use Rattle.lines.specs.Midway.{Between, Further, ReadsOn, comes_to, once_read}
 use Rattle.lines.specs.Pieces.{Piece, Read, absorbed, after_byte, flushed_only, piece_of, read_listing, stops, with_line}
-use Rattle.lines.specs.declared.line.Flushed.{Flushed}
+use Rattle.lines.specs.Put.{Placed, placed}
 use Rattle.lines.specs.declared.line.Line.{Line}
 use Rattle.lines.specs.declared.listing.Listing.{Listing}
+use Rattle.lines.specs.declared.put.Writer.{Writer}
 
 pub begun : (input : List ℕ) (l : Listing) (output : List ℕ) → comes_to input 0 l output 0 ≡ read_listing l input output
 unfolding read_listing
@@ -67,16 +68,16 @@ idle_byte l room on a rest =
 
 -- what waits and has room is written first, and then it is as if nothing had waited
 flush_first : (l : Listing) (room : ℕ) → l.ended ≡ false → ltb room (waiting l.line) ≡ false → (input : List ℕ) → piece_of l input room ≡ prefixed (writes l.line room) (piece_of (with_line l empty_line) input (room - length (writes l.line room)))
-flush_first l room on None [] =
+flush_first l room on none [] =
     let w = writes l.line room in
-    ap₂ {C = Piece} (λ (t : List ℕ) (x : Line). record { taken = 0; text = t; next = with_line l x }) (sym (append-nil w)) (empty_where_no_more l.line room None)
+    ap₂ {C = Piece} (λ (t : List ℕ) (x : Line). record { taken = 0; text = t; next = with_line l x }) (sym (append-nil w)) (empty_where_no_more l.line room none)
     ∙ ap (prefixed w) (sym (idle_at_end l (room - length w)))
-flush_first l room on None (a ∷ rest) =
+flush_first l room on none (a ∷ rest) =
     let w = writes l.line room in
-    let goes : stops l room ≡ false = ap₂ (λ (t b : Bool). cond t true b) on None in
+    let goes : stops l room ≡ false = ap₂ (λ (t b : Bool). cond t true b) on none in
     let next : Line → Piece = λ (x : Line). after_byte w (piece_of (absorbed (with_line l x) a) rest (room - length w)) in
     ap (λ (t : Bool). cond t (flushed_only l room) (next (unwritten l.line room))) goes
-    ∙ ap next (empty_where_no_more l.line room None)
+    ∙ ap next (empty_where_no_more l.line room none)
     ∙ ap (prefixed w) (sym (idle_byte l (room - length w) on a rest))
 
 -- a byte is taken, where nothing waits
@@ -127,19 +128,19 @@ module _ (l : Listing) (output : List ℕ) (written : ℕ) (inside : written ≤
 
   -- all that waits is written, and the reading comes to the same
   pub goes_on_lem : (input : List ℕ) (taken : ℕ) → l.ended ≡ false → ltb (length output - written) (waiting l.line) ≡ false → comes_to input taken (with_line l empty_line) (filled l output written) (written + length (unwritten_text l output written)) ≡ comes_to input taken l output written
-  goes_on_lem input taken on None =
+  goes_on_lem input taken on none =
       let w = unwritten_text l output written in
       let room = length output - written in
       let less : length (filled l output written) - (written + length w) ≡ room - length w = omega (arith, filled_length) in
       ap (λ (n : ℕ). once_read taken (written + length w) (filled l output written) (piece_of (with_line l empty_line) (drop taken input) n)) less
-      ∙ sym (ap (once_read taken written output) (flush_first l room on None (drop taken input)) ∙ turned taken _)
+      ∙ sym (ap (once_read taken written output) (flush_first l room on none (drop taken input)) ∙ turned taken _)
 
   -- no turn more
   ends_with : (taken : ℕ) (p : Piece) → p ≡ flushed_only l (length output - written) → once_read taken written output p ≡ (taken, written + length (unwritten_text l output written), left l output written, filled l output written)
   ends_with taken p e =
-      let None : taken + 0 ≡ taken = omega arith in
+      let none : taken + 0 ≡ taken = omega arith in
       ap (once_read taken written output) e
-      ∙ ap {B = Read} (λ (n : ℕ). (n, written + length (unwritten_text l output written), left l output written, filled l output written)) None
+      ∙ ap {B = Read} (λ (n : ℕ). (n, written + length (unwritten_text l output written), left l output written, filled l output written)) none
 
   stops_at_end : (input : List ℕ) (taken : ℕ) → length input ≤ taken → comes_to input taken l output written ≡ (taken, written + length (unwritten_text l output written), left l output written, filled l output written)
   stops_at_end input taken over_all =
@@ -155,72 +156,121 @@ module _ (l : Listing) (output : List ℕ) (written : ℕ) (inside : written ≤
       (ap (λ (i : List ℕ). piece_of l i room) first
       ∙ ap (λ (t : Bool). cond t (flushed_only l room) (after_byte w (piece_of next (drop (taken + 1) input) (room - length w)))) stop)
 
--- the same with what the flush of the part that was lent came to
-module _ (l : Listing) (output : List ℕ) (written : ℕ) (inside : written ≤ length output) (r : Flushed) (ys : List ℕ) (done : flush_outcome r ys ≡ flushed l.line (take (length output - written) (drop written output))) where
-  of_part : flush_outcome r ys ≡ (length (unwritten_text l output written), unwritten l.line (length output - written), over (unwritten_text l output written) (drop written output))
-  of_part =
-      let rest = drop written output in
-      done
-      ∙ ap (flushed l.line) (lent_part output written)
-      ∙ ap {B = ℕ × Line × List ℕ} (λ (n : ℕ). (length (writes l.line n), unwritten l.line n, over (writes l.line n) rest)) (length-drop written output)
+-- the same with what a flush came to
+module _ (l : Listing) (w : Writer) (inside : w.at ≤ length w.out.now) (m : Listing) (next : Writer) (flushed : Flushes l.line w m.line next) (leaves : m ≡ with_line l m.line) where
+  abbrev output : List ℕ
+  output = w.out.now
 
-  counted : r.count ≡ length (unwritten_text l output written)
-  counted = ap (λ (x : ℕ × Line × List ℕ). x.0) of_part
+  abbrev text : List ℕ
+  text = unwritten_text l output w.at
 
-  line_left : r.line ≡ unwritten l.line (length output - written)
-  line_left = ap (λ (x : ℕ × Line × List ℕ). x.1) of_part
+  put_is : placed next ≡ (w.at + length text, filled l output w.at)
+  put_is = flushed.puts.put ∙ all_places text w.at output (omega (arith, fits l.line (length output - w.at), inside))
 
-  part_filled : with_part output written ys ≡ filled l output written
-  part_filled = with_part_lem output written ys ∙ ap (λ (x : ℕ × Line × List ℕ). take written output ++ x.2) of_part
+  place_is : next.at ≡ w.at + length text
+  place_is = ap (λ (s : Placed). s.0) put_is
 
-  pub count_fits : written + r.count ≤ length output
-  count_fits = omega (arith, counted, fits l.line (length output - written))
+  output_is : next.out.now ≡ filled l output w.at
+  output_is = ap (λ (s : Placed). s.1) put_is
 
-  pub part_length : length (with_part output written ys) ≡ length output
-  part_length = ap length part_filled ∙ filled_length l output written inside
+  pub flushed_length : length next.out.now ≡ length output
+  flushed_length = ap length output_is ∙ filled_length l output w.at inside
 
-  pub stays_inside : written + r.count ≤ length (with_part output written ys)
-  stays_inside = omega (arith, count_fits, part_length)
+  pub stays_inside : next.at ≤ length next.out.now
+  stays_inside = omega (arith, place_is, fits l.line (length output - w.at), inside, flushed_length)
 
-  left_is : (m : Listing) → m ≡ with_line l r.line → m ≡ left l output written
-  left_is m e = e ∙ ap (with_line l) line_left
+  left_is : m ≡ left l output w.at
+  left_is = leaves ∙ ap (with_line l) flushed.leaves
 
-  ended_is : (m : Listing) → m ≡ with_line l r.line → m.ended ≡ l.ended
-  ended_is m e = ap (λ (x : Listing). x.ended) e
+  ended_is : m.ended ≡ l.ended
+  ended_is = ap (λ (x : Listing). x.ended) leaves
 
-  more_is : has_more r.line ≡ ltb (length output - written) (waiting l.line)
-  more_is = ap has_more line_left ∙ left_where_more l.line (length output - written)
+  more_is : has_more m.line ≡ ltb (length output - w.at) (waiting l.line)
+  more_is = ap has_more flushed.leaves ∙ left_where_more l.line (length output - w.at)
 
-  stopped : (taken : ℕ) (m : Listing) → m ≡ with_line l r.line → ◌≡◌ {A = Read} (taken, written + r.count, m, with_part output written ys) (taken, written + length (unwritten_text l output written), left l output written, filled l output written)
-  stopped taken m e =
-      ap₂ {C = Read} (λ (n : ℕ) (x : Listing). (taken, written + n, x, with_part output written ys)) counted (left_is m e)
-      ∙ ap {B = Read} (λ (o : List ℕ). (taken, written + length (unwritten_text l output written), left l output written, o)) part_filled
+  stopped : (taken : ℕ) → ◌≡◌ {A = Read} (taken, next.at, m, next.out.now) (taken, w.at + length text, left l output w.at, filled l output w.at)
+  stopped taken = ap₂ {C = Read} (λ (s : Placed) (x : Listing). (taken, s.0, x, s.1)) put_is left_is
 
-  pub at_end_lem : (input : List ℕ) (taken : ℕ) (m : Listing) → length input ≤ taken → m ≡ with_line l r.line → (taken, written + r.count, m, with_part output written ys) ≡ comes_to input taken l output written
-  at_end_lem input taken m over_all e = stopped taken m e ∙ sym (stops_at_end l output written inside input taken over_all)
+  pub at_end_lem : (input : List ℕ) (taken : ℕ) → length input ≤ taken → ◌≡◌ {A = Read} (taken, next.at, m, next.out.now) (comes_to input taken l output w.at)
+  at_end_lem input taken over_all = stopped taken ∙ sym (stops_at_end l output w.at inside input taken over_all)
 
-  pub where_more_is_left : (input : List ℕ) (taken : ℕ) (m : Listing) → taken < length input → m ≡ with_line l r.line → has_more r.line ≡ true → (taken, written + r.count, m, with_part output written ys) ≡ comes_to input taken l output written
-  where_more_is_left input taken m more e Some =
-      stopped taken m e ∙ sym (stops_here l output written inside input taken more (stop_by l.ended (sym more_is ∙ Some)))
+  pub where_more_is_left : (input : List ℕ) (taken : ℕ) → taken < length input → has_more m.line ≡ true → ◌≡◌ {A = Read} (taken, next.at, m, next.out.now) (comes_to input taken l output w.at)
+  where_more_is_left input taken more some =
+      stopped taken ∙ sym (stops_here l output w.at inside input taken more (stop_by l.ended (sym more_is ∙ some)))
     where
       stop_by : (t : Bool) {b : Bool} → b ≡ true → cond t true b ≡ true
       stop_by true e = refl
       stop_by false e = e
 
-  pub where_ended : (input : List ℕ) (taken : ℕ) (m : Listing) → taken < length input → m ≡ with_line l r.line → m.ended ≡ true → (taken, written + r.count, m, with_part output written ys) ≡ comes_to input taken l output written
-  where_ended input taken m more e end =
-      let b = ltb (length output - written) (waiting l.line) in
-      stopped taken m e ∙ sym (stops_here l output written inside input taken more (ap (λ (t : Bool). cond t true b) (sym (ended_is m e) ∙ end)))
+  pub where_ended : (input : List ℕ) (taken : ℕ) → taken < length input → m.ended ≡ true → ◌≡◌ {A = Read} (taken, next.at, m, next.out.now) (comes_to input taken l output w.at)
+  where_ended input taken more end =
+      let b = ltb (length output - w.at) (waiting l.line) in
+      stopped taken ∙ sym (stops_here l output w.at inside input taken more (ap (λ (t : Bool). cond t true b) (sym ended_is ∙ end)))
 
-  pub flushed_on : (input : List ℕ) (taken : ℕ) (m : Listing) → m ≡ with_line l r.line → has_more r.line ≡ false → m.ended ≡ false → comes_to input taken m (with_part output written ys) (written + r.count) ≡ comes_to input taken l output written
-  flushed_on input taken m e None going =
-      let room = length output - written in
-      let no_more = sym more_is ∙ None in
-      ap₂ (λ (o : List ℕ) (k : ℕ). comes_to input taken m o (written + k)) part_filled counted
-      ∙ ap (λ (x : Listing). comes_to input taken x (filled l output written) (written + length (unwritten_text l output written)))
-      (left_is m e ∙ ap (with_line l) (empty_where_no_more l.line room no_more))
-      ∙ goes_on_lem l output written inside input taken (sym (ended_is m e) ∙ going) no_more
+  pub flushed_on : (input : List ℕ) (taken : ℕ) → has_more m.line ≡ false → m.ended ≡ false → comes_to input taken m next.out.now next.at ≡ comes_to input taken l output w.at
+  flushed_on input taken none going =
+      let no_more = sym more_is ∙ none in
+      ap₂ (λ (x : Listing) (s : Placed). comes_to input taken x s.1 s.0) (left_is ∙ ap (with_line l) (empty_where_no_more l.line (length output - w.at) no_more)) put_is
+      ∙ goes_on_lem l output w.at inside input taken (sym ended_is ∙ going) no_more
 
-  pub line_is_empty : (m : Listing) → m ≡ with_line l r.line → has_more r.line ≡ false → m.line ≡ empty_line
-  line_is_empty m e None =
-      ap (λ (x : Listing). x.line) e ∙ line_left ∙ empty_where_no_more l.line (length output - written) (sym more_is ∙ None)
+  pub line_is_empty : has_more m.line ≡ false → m.line ≡ empty_line
+  line_is_empty none = flushed.leaves ∙ empty_where_no_more l.line (length output - w.at) (sym more_is ∙ none)
+
+-- a reading on its way from a listing and a writer, at its start
+pub record Reached (input : List ℕ) (l : Listing) (w : Writer) (taken : ℕ) (now : Listing) (next : Writer) : Type 0 where
+  pub same_memory : next.out.ghost_name ≡ w.out.ghost_name
+  pub comes : comes_to input taken now next.out.now next.at ≡ comes_to input 0 l w.out.now w.at
+  pub taken_inside : taken ≤ length input
+  pub written_inside : next.at ≤ length next.out.now
+
+module _ {input : List ℕ} {start l m : Listing} {first w next : Writer} {taken : ℕ} (so_far : Reached input start first taken l w) (flushed : Flushes l.line w m.line next) (leaves : m ≡ with_line l m.line) where
+  still : next.out.ghost_name ≡ first.out.ghost_name
+  still = flushed.puts.same_memory ∙ so_far.same_memory
+
+  pub reads_all : length input ≤ taken → ReadsOn input start first (m, taken) next
+  reads_all over_all = record {
+    same_memory = still;
+    comes = at_end_lem l w so_far.written_inside m next flushed leaves input taken over_all ∙ so_far.comes;
+  }
+
+  pub stops_full : taken < length input → has_more m.line ≡ true → ReadsOn input start first (m, taken) next
+  stops_full more full = record {
+    same_memory = still;
+    comes = where_more_is_left l w so_far.written_inside m next flushed leaves input taken more full ∙ so_far.comes;
+  }
+
+  pub stops_ended : taken < length input → m.ended ≡ true → ReadsOn input start first (m, taken) next
+  stops_ended more end = record {
+    same_memory = still;
+    comes = where_ended l w so_far.written_inside m next flushed leaves input taken more end ∙ so_far.comes;
+  }
+
+  module _ (none : has_more m.line ≡ false) (going : m.ended ≡ false) where
+    pub is_between : Between input taken m next.out.now next.at
+    is_between = (
+      line_is_empty l w so_far.written_inside m next flushed leaves none,
+      going,
+      so_far.taken_inside,
+      stays_inside l w so_far.written_inside m next flushed leaves,
+    )
+
+    module _ {r : Listing × ℕ} {after : Writer} (further : Further input taken m next r after) where
+      pub with_pairs : Reached input start first r.1 r.0 after
+      with_pairs = record {
+        same_memory = further.same_memory ∙ still;
+        comes = further.comes ∙ flushed_on l w so_far.written_inside m next flushed leaves input taken none going ∙ so_far.comes;
+        taken_inside = further.between.2;
+        written_inside = further.between.3;
+      }
+
+      pub with_byte_too : r.1 < length input → (n : Listing) → n ≡ absorbed r.0 (get_or input r.1 0) → Reached input start first (r.1 + 1) n after
+      with_byte_too more n e = record {
+        same_memory = with_pairs.same_memory;
+        comes = byte_taken input r.1 r.0 after.out.now after.at more further.between.0 further.between.1 n e ∙ with_pairs.comes;
+        taken_inside = omega (arith, more);
+        written_inside = with_pairs.written_inside;
+      }
+
+-- where the memory was taken back from the writer
+pub read_whole : {input : List ℕ} {l : Listing} {w next : Writer} {r : Listing × ℕ} {memory : List ℕ} → memory ≡ next.out.now → ReadsOn input l w r next → ◌≡◌ {A = Read} (r.1, next.at, r.0, memory) (comes_to input 0 l w.out.now w.at)
+read_whole {input} {l} {w} {next} {r} e reads = ap {B = Read} (λ (o : List ℕ). (r.1, next.at, r.0, o)) e ∙ reads.comes

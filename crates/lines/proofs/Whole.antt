@@ -51,7 +51,7 @@ all_taken input l = (ends input l).1
 
 -- what waits is written whole where there is room for it
 all_of_it : (l : Line) (room : ℕ) → ltb room (waiting l) ≡ false → writes l room ≡ pending l
-all_of_it l room None = take_all room (pending l) (omega (arith, how_many_lem l, ltb-false room (waiting l) None))
+all_of_it l room none = take_all room (pending l) (omega (arith, how_many_lem l, ltb-false room (waiting l) none))
 
 both_not : (e f : Bool) → cond e true f ≡ false → (e ≡ false) × (f ≡ false)
 both_not true f h = absurd (true≢false h)
@@ -103,8 +103,8 @@ calls_add_up (a ∷ rest) l room =
 module _ (l : Listing) (room : ℕ) where
   not_full : length (writes l.line room) < room → flushed_only l room ≡ written_out l
   not_full less =
-      let None : ltb room (waiting l.line) ≡ false = le-ltb room (waiting l.line) (omega (arith, less, how_many_lem l.line, length-take room (pending l.line))) in
-      same_piece refl (all_of_it l.line room None) (ap (with_line l) (empty_where_no_more l.line room None))
+      let none : ltb room (waiting l.line) ≡ false = le-ltb room (waiting l.line) (omega (arith, less, how_many_lem l.line, length-take room (pending l.line))) in
+      same_piece refl (all_of_it l.line room none) (ap (with_line l) (empty_where_no_more l.line room none))
 
   abbrev room_left : ℕ
   room_left = room - length (writes l.line room)

@@ -1,17 +1,16 @@
 -- The listing of a stream that comes in pieces of any size and goes into outputs of any size: what is not taken is
 -- offered again, and what was not written waits. The port's own words.
+use Rattle.std.specs.Prelude.{Option, None, Some}
 use Rattle.std.specs.Prelude.{ℕ, true, cond, List, [], ◌∷◌, ◌++◌, ◌⊎◌, ◌≡◌, drop, take}
 use Rattle.lines.specs.Line.{pending}
 use Rattle.lines.specs.Listing.{list_from}
 use Rattle.lines.specs.Pieces.{Piece, ended_listing, piece_of}
-use Rattle.lines.specs.declared.listing.Half.{Half}
-use Rattle.lines.specs.declared.listing.Half.TheVariants as half
 use Rattle.lines.specs.declared.listing.Listing.{Listing}
 
 -- the first byte of a pair whose second has not come
-abbrev pub half_bytes : Half → List ℕ
-half_bytes half.Absent = []
-half_bytes (half.Byte a) = a ∷ []
+abbrev pub half_bytes : Option ℕ → List ℕ
+half_bytes None = []
+half_bytes (Some a) = a ∷ []
 
 -- what a state has still to write, with the input that is left
 abbrev pub says_yet : Listing → List ℕ → List ℕ

@@ -1,8 +1,8 @@
 -- A line of text that waits to be written: the bytes of a memory between two places. The port's own words.
-use Rattle.std.specs.Prelude.{ℕ, zero, suc, ◌+◌, ◌-◌, Bool, cond, List, [], ◌∷◌, ◌++◌, leb, ltb, drop, get_or, length, replicate, take}
-use Rattle.lines.specs.Put.{put_all}
-use Rattle.lines.specs.declared.line.Flushed.{Flushed}
+use Rattle.std.specs.Prelude.{ℕ, zero, suc, ◌+◌, ◌-◌, Bool, cond, List, [], ◌∷◌, ◌++◌, ◌≡◌, leb, ltb, drop, get_or, length, replicate, take}
+use Rattle.lines.specs.Put.{Puts, put_all, room_of}
 use Rattle.lines.specs.declared.line.Line.{Line}
+use Rattle.lines.specs.declared.put.Writer.{Writer}
 
 -- the memory of a line; no line is longer
 abbrev pub line_length : ℕ
@@ -41,12 +41,7 @@ unwritten l room = cond (ltb room (waiting l)) (record { bytes = l.bytes; at = l
 abbrev pub over : List ℕ → List ℕ → List ℕ
 over bytes output = bytes ++ drop (length bytes) output
 
-abbrev pub flushed : Line → List ℕ → ℕ × Line × List ℕ
-flushed l output = (
-  length (writes l (length output)),
-  unwritten l (length output),
-  over (writes l (length output)) output,
-)
-
-abbrev pub flush_outcome : Flushed → List ℕ → ℕ × Line × List ℕ
-flush_outcome r output = (r.count, r.line, output)
+-- a line flushed by a writer, and what is left of it
+pub record Flushes (l : Line) (w : Writer) (rest : Line) (next : Writer) : Type 0 where
+  pub puts : Puts w (writes l (room_of w)) next
+  pub leaves : rest ≡ unwritten l (room_of w)

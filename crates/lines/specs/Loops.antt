@@ -9,17 +9,17 @@ use Rattle.lines.specs.declared.listing.Listing.{Listing}
 use Rattle.lines.specs.declared.listing.Progress.{Progress}
 
 -- after a call that answered so and left this output: what it wrote is kept, and what it did not take is left
-abbrev pub called : Progress → List ℕ → Run → Run
+abbrev pub called : Listing × Progress → List ℕ → Run → Run
 called p output r = record {
-  text = r.text ++ take p.written output;
-  listing = p.listing;
-  left = drop p.taken r.left;
+  text = r.text ++ take p.1.written output;
+  listing = p.0;
+  left = drop p.1.taken r.left;
 }
 
 -- calls in a row as `read` promises them, each with any part of what is left and any output
 pub data Calls : Run → Run → Type 0 where
   ends : {r : Run} → Calls r r
-  calls : {r last : Run} (n : ℕ) (output : List ℕ) (p : Progress) (after : List ℕ) → read_outcome p after ≡ read_listing r.listing (take n r.left) output → Calls (called p after r) last → Calls r last
+  calls : {r last : Run} (n : ℕ) (output : List ℕ) (p : Listing × Progress) (after : List ℕ) → read_outcome p after ≡ read_listing r.listing (take n r.left) output → Calls (called p after r) last → Calls r last
 
 -- calls that each offer all that is left, by the room of their outputs
 abbrev pub call_all : List ℕ → Run → Run

@@ -1,7 +1,7 @@
 -- The listing in pieces, in the port's own words: what a byte and the end do to a state, and how much is taken and
 -- written. Any state may be handed in; one that no call leaves is listed as it stands.
 use Rattle.std.specs.Prelude.{ℕ, ◌+◌, ◌-◌, Bool, true, false, cond, List, [], ◌∷◌, ◌++◌, leb, ltb, length}
-use Rattle.std.specs.Prelude.{Option}
+use Rattle.std.specs.Prelude.{Option, None, Some}
 use Rattle.code.specs.Outcome.{Outcome, answer, refused}
 use Rattle.code.specs.Pair.{pair}
 use Rattle.event.specs.declared.event.Cea608.{Cea608}
@@ -9,8 +9,6 @@ use Rattle.lines.specs.Line.{empty_line, has_more, over, pending, says, unwritte
 use Rattle.lines.specs.Listing.{most_pairs}
 use Rattle.lines.specs.Words.{last_line, line, line_of, refused_words}
 use Rattle.lines.specs.declared.line.Line.{Line}
-use Rattle.lines.specs.declared.listing.Half.{Half}
-use Rattle.lines.specs.declared.listing.Half.TheVariants as half
 use Rattle.lines.specs.declared.listing.Listing.{Listing}
 use Rattle.lines.specs.declared.listing.Progress.{Progress}
 use Rattle.receiver.specs.Receiver.{Stepped, fresh, step}
@@ -18,7 +16,7 @@ use Rattle.receiver.specs.declared.state.Cea608State.{Cea608State}
 
 -- between two pairs, with nothing that waits
 abbrev pub between_pairs : Cea608State → ℕ → ℕ → Listing
-between_pairs s k q = record { receiver = s; half = half.Absent; pairs = k; refused = q; ended = false; line = empty_line }
+between_pairs s k q = record { receiver = s; half = None; pairs = k; refused = q; ended = false; line = empty_line }
 
 abbrev pub fresh_listing : Listing
 fresh_listing = between_pairs fresh 0 0
@@ -35,7 +33,7 @@ counted (refused n) q = one_more q
 abbrev pub ending : Listing → Line → List ℕ → ℕ → Listing
 ending l begun words q = record {
   receiver = l.receiver;
-  half = half.Absent;
+  half = None;
   pairs = l.pairs;
   refused = q;
   ended = true;
@@ -48,7 +46,7 @@ refused_by n l begun = ending l begun (line l.pairs (refused_words n)) (one_more
 abbrev pub with_half : Listing → ℕ → Listing
 with_half l a = record {
   receiver = l.receiver;
-  half = half.Byte a;
+  half = Some a;
   pairs = l.pairs;
   refused = l.refused;
   ended = l.ended;
@@ -59,25 +57,25 @@ with_half l a = record {
 abbrev pub after_pair : Listing → Stepped → Listing
 after_pair l r = record {
   receiver = r.1;
-  half = half.Absent;
+  half = None;
   pairs = l.pairs + 1;
   refused = counted r.0 l.refused;
   ended = l.ended;
   line = says empty_line (line_of l.pairs r.0);
 }
 
-abbrev pub with_byte : Listing → Half → ℕ → Listing
-with_byte l half.Absent a = with_half l a
-with_byte l (half.Byte x) a = after_pair l (step l.receiver (pair x a))
+abbrev pub with_byte : Listing → Option ℕ → ℕ → Listing
+with_byte l None a = with_half l a
+with_byte l (Some x) a = after_pair l (step l.receiver (pair x a))
 
 -- a byte, where nothing waits to be written
 unfoldable pub absorbed : Listing → ℕ → Listing
 absorbed l a = cond (leb most_pairs l.pairs) (refused_by 10 l empty_line) (with_byte l l.half a)
 
 -- the end of the input, after what waits
-abbrev pub end_by : Listing → Half → Listing
-end_by l half.Absent = ending l l.line [] l.refused
-end_by l (half.Byte x) = refused_by (cond (leb most_pairs l.pairs) 10 9) l l.line
+abbrev pub end_by : Listing → Option ℕ → Listing
+end_by l None = ending l l.line [] l.refused
+end_by l (Some x) = refused_by (cond (leb most_pairs l.pairs) 10 9) l l.line
 
 unfoldable pub ended_listing : Listing → Listing
 ended_listing l = cond l.ended l (end_by l l.half)
@@ -127,8 +125,8 @@ whole_piece l (a ∷ rest) =
 abbrev pub Read : Type 0
 Read = ℕ × ℕ × Listing × List ℕ
 
-abbrev pub read_outcome : Progress → List ℕ → Read
-read_outcome r output = (r.taken, r.written, r.listing, output)
+abbrev pub read_outcome : Listing × Progress → List ℕ → Read
+read_outcome r output = (r.1.taken, r.1.written, r.0, output)
 
 abbrev pub read_as : Piece → List ℕ → Read
 read_as p output = (p.taken, length p.text, p.next, over p.text output)

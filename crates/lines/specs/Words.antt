@@ -7,8 +7,6 @@ use Rattle.code.specs.MidRow.{is_underlined, mid_row_number}
 use Rattle.code.specs.Outcome.{Outcome, answer, refused}
 use Rattle.code.specs.Preamble.{style_of}
 use Rattle.code.specs.declared.channel.Channel.{Channel}
-use Rattle.code.specs.declared.character.Character.{Character}
-use Rattle.code.specs.declared.character.Character.TheVariants as character
 use Rattle.event.specs.declared.event.Cea608.{Cea608}
 use Rattle.event.specs.declared.event.Cea608.TheVariants as event
 use Rattle.event.specs.declared.mode.Mode.{Mode}
@@ -31,6 +29,10 @@ decimal n =
 abbrev pub up_to_four : ℕ → List ℕ
 up_to_four n = at_places (1000 ∷ 100 ∷ 10 ∷ []) n
 
+-- the last four digits of any number
+abbrev pub low_four : ℕ → List ℕ
+low_four n = (0x30 + n / 1000 % 10) ∷ (0x30 + n / 100 % 10) ∷ (0x30 + n / 10 % 10) ∷ (0x30 + n % 10) ∷ []
+
 -- four hex digits with capitals; no code has a character above FFFF
 abbrev pub hex_digit : ℕ → ℕ
 hex_digit d = cond (ltb d 10) (0x30 + d) (0x37 + d)
@@ -46,9 +48,9 @@ flag_digit false = 0x30
 abbrev pub channel_digit : Channel → ℕ
 channel_digit ch = 0x30 + channel_id ch
 
-abbrev pub character_word : Character → List ℕ
-character_word character.Absent = points "-"
-character_word (character.Point c) = hex c
+abbrev pub character_word : Option ℕ → List ℕ
+character_word None = points "-"
+character_word (Some c) = hex c
 
 abbrev pub mode_word : Mode → List ℕ
 mode_word mode.PopOn = points "pop"

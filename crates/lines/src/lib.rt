@@ -8,4 +8,5 @@ pub mod put;
 pub mod words;
 
 pub use line::Line;
-pub use listing::{Half, Listing, Progress};
+pub use listing::{Listing, Progress};
+pub use put::Writer;

@@ -1,6 +1,8 @@
 // A line of text that waits to be written, in a fixed piece of memory.
 ghost use Rattle.std.specs.Prelude.{◌≡◌};
-ghost use Rattle.lines.specs.Line.{empty_line, flush_outcome, flushed, has_more};
+ghost use Rattle.lines.specs.Line.{Flushes, empty_line, has_more, pending};
+
+use crate::put::Writer;
 
 // The bytes of a line's memory. No line is longer.
 pub(crate) const LINE_LENGTH: usize = 96;
@@ -11,13 +13,6 @@ pub struct Line {
     pub bytes: [u8; LINE_LENGTH],
     pub at: usize,
     pub len: usize,
-}
-
-// How many bytes were written, and what is left of the line.
-#[derive(Clone, Copy)]
-pub(crate) struct Flushed {
-    pub count: usize,
-    pub line: Line,
 }
 
 impl Line {
@@ -32,41 +27,35 @@ impl Line {
         }
     }
 
-    // Whether anything waits.
-    pub(crate) fn has_more(self) -> bool
-        ensures { result ≡ has_more self }
+    // The bytes that wait.
+    pub(crate) fn waiting(&self) -> &[u8]
+        ensures { result.now ≡ pending self.now }
     {
-        let at = self.at;
-        let len = self.len;
-        if LINE_LENGTH <= at {
-            return false;
-        }
-        at < len
+        let end = self.len.min(LINE_LENGTH);
+        &self.bytes[self.at.min(end)..end]
+    }
+
+    // Whether anything waits.
+    #[tactic(auto, using(crate::proofs::Waiting::how_many_lem))]
+    pub(crate) fn has_more(&self) -> bool
+        ensures { result ≡ has_more self.now }
+    {
+        0 < self.waiting().len()
     }
 
     // Writes what waits, as far as there is room. A line of which nothing is left is empty.
-    pub(crate) fn flush(self, output: &mut [u8]) -> Flushed
-        ensures { flush_outcome result output.new ≡ flushed self output.old }
+    pub(crate) fn flush(self, out: &mut Writer) -> Line
+        ensures { Flushes self out.old result out.new }
     {
-        let len = self.len;
-        let mut at = self.at;
-        let mut count: usize = 0;
-        while at < LINE_LENGTH && at < len {
-            if output.len() <= count {
-                let mut line = self;
-                line.at = at;
-                return Flushed {
-                    count: count,
-                    line: line,
-                };
-            }
-            output[count] = self.bytes[at];
-            at += 1;
-            count += 1;
+        let waiting = self.waiting();
+        let count = waiting.len().min(out.room());
+        out.put_word(&waiting[..count]);
+        if waiting.len() <= count {
+            return Line::new();
         }
-        Flushed {
-            count: count,
-            line: Line::new(),
+        Line {
+            at: self.at + count,
+            ..self
         }
     }
 }

@@ -1,31 +1,29 @@
 // The listing's state, and what a piece of input does to it.
-ghost use Rattle.std.specs.Prelude.{◌≡◌, ◌<◌};
+ghost use Rattle.std.specs.Prelude.{◌≡◌, ◌≤◌, ◌<◌, length};
 ghost use Rattle.lines.specs.Listing.{most_pairs};
-ghost use Rattle.lines.specs.Midway.{Between, Further, HasPair, Onward};
+ghost use Rattle.lines.specs.Midway.{Between, Further, HasPair, Onward, ReadsOn};
 ghost use Rattle.lines.specs.Pieces.{absorbed, after_pair, between_pairs, counted, ended_listing, fresh_listing, is_done, one_more, read_listing, read_outcome, refused_by, with_line};
+ghost use Rattle.lines.specs.Line.{Flushes, says};
+ghost use Rattle.lines.specs.Words.{last_line, line, refused_words};
 ghost use Rattle.receiver.specs.Heard.{heard_outcome};
 ghost use Rattle.receiver.specs.Receiver.{step};
 
 use crate::line::{LINE_LENGTH, Line};
+use crate::put::Writer;
 use crate::words::{put_last_line, put_line_of, put_refused_line};
-use code::Pair;
-use receiver::{Cea608State, Heard};
+use code::{InvalidParity, Pair};
+use event::Cea608;
+use receiver::Cea608State;
 
 // A stream has at most so many pairs; one byte more is refused 10.
 pub const MOST_PAIRS: u32 = 16_777_216;
 
-// The first byte of a pair whose second has not come.
-#[derive(Clone, Copy)]
-pub enum Half {
-    Absent,
-    Byte(u8),
-}
-
-// How many pairs were read and refused, what is known of the stream, and the text that waits to be written.
+// How many pairs were read and refused, what is known of the stream, and the text that waits to be written. `half` is the
+// first byte of a pair whose second has not come.
 #[derive(Clone, Copy)]
 pub struct Listing {
     pub receiver: Cea608State,
-    pub half: Half,
+    pub half: Option<u8>,
     pub pairs: u32,
     pub refused: u32,
     pub ended: bool,
@@ -37,7 +35,6 @@ pub struct Listing {
 pub struct Progress {
     pub taken: usize,
     pub written: usize,
-    pub listing: Listing,
 }
 
 // One more in a count. Refusals come to at most one beyond the limit of pairs, and packets to no more than the pairs.
@@ -51,13 +48,48 @@ pub fn one_more(count: u32) -> u32
 }
 
 // The refusals with that of a pair, if it was refused.
-pub(crate) fn count_refusal(refused: u32, heard: Heard) -> u32
+pub(crate) fn count_refusal(refused: u32, heard: Result<Option<Cea608>, InvalidParity>) -> u32
     ensures { result ≡ counted (heard_outcome heard) refused }
 {
     match heard {
-        Heard::Event(_) => refused,
-        Heard::Nothing => refused,
-        Heard::InvalidParity => one_more(refused),
+        Ok(_) => refused,
+        Err(InvalidParity) => one_more(refused),
+    }
+}
+
+// The line with the last line after what it has.
+pub(crate) fn with_last_line(begun: Line, pairs: u32, refused: u32) -> Line
+    ensures { result ≡ says begun (last_line pairs refused) }
+{
+    let mut bytes = begun.bytes;
+    let mut out = Writer {
+        out: &mut bytes,
+        at: begun.len,
+    };
+    put_last_line(&mut out, pairs, refused);
+    let len = out.at;
+    Line {
+        bytes,
+        len,
+        ..begun
+    }
+}
+
+// The same with the line of a refusal.
+pub(crate) fn with_refused_line(begun: Line, number: u32, refusal: u32) -> Line
+    ensures { result ≡ says begun (line number (refused_words refusal)) }
+{
+    let mut bytes = begun.bytes;
+    let mut out = Writer {
+        out: &mut bytes,
+        at: begun.len,
+    };
+    put_refused_line(&mut out, number, refusal);
+    let len = out.at;
+    Line {
+        bytes,
+        len,
+        ..begun
     }
 }
 
@@ -66,63 +98,12 @@ pub(crate) fn between_pairs(receiver: Cea608State, pairs: u32, refused: u32) -> 
     ensures { result ≡ between_pairs receiver pairs refused }
 {
     Listing {
-        receiver: receiver,
-        half: Half::Absent,
-        pairs: pairs,
-        refused: refused,
+        receiver,
+        half: None,
+        pairs,
+        refused,
         ended: false,
         line: Line::new(),
-    }
-}
-
-// How far whole pairs were listed, and what is known then.
-#[derive(Clone, Copy)]
-pub(crate) struct Listed {
-    pub receiver: Cea608State,
-    pub pairs: u32,
-    pub refused: u32,
-    pub taken: usize,
-    pub written: usize,
-}
-
-// Lists a whole pair, and more as long as there are more and there is room for any line. Nothing else decodes or puts a
-// pair's line, so that the compiler has both inside the loop and keeps the receiver in registers.
-pub(crate) fn list_pairs(
-    known: Cea608State,
-    read: u32,
-    refusals: u32,
-    input: &[u8],
-    from: usize,
-    out: &mut [u8],
-    at: usize,
-) -> Listed
-    requires { HasPair input.now from read out.old at }
-    ensures { Onward input.now from known read refusals out.old at result out.new }
-{
-    let mut receiver = known;
-    let mut pairs = read;
-    let mut refused = refusals;
-    let mut taken = from;
-    let mut written = at;
-    loop {
-        let decoded = receiver.decode(Pair(input[taken], input[taken + 1]));
-        let next = decoded.state;
-        let answer = decoded.answer;
-        written = put_line_of(out, written, pairs, answer);
-        refused = count_refusal(refused, answer);
-        receiver = next;
-        pairs += 1;
-        taken += 2;
-        if input.len() - taken < 2 || out.len() - written < LINE_LENGTH || MOST_PAIRS <= pairs {
-            break;
-        }
-    }
-    Listed {
-        receiver: receiver,
-        pairs: pairs,
-        refused: refused,
-        taken: taken,
-        written: written,
     }
 }
 
@@ -135,27 +116,42 @@ impl Listing {
     }
 
     // The stream ends with a refusal by this number, after what the line has.
-    pub(crate) fn refused_by(self, refusal: u32, line: Line) -> Listing
-        ensures { result ≡ refused_by refusal self line }
+    pub(crate) fn refused_by(self, refusal: u32, begun: Line) -> Listing
+        ensures { result ≡ refused_by refusal self begun }
     {
-        let receiver = self.receiver;
-        let pairs = self.pairs;
         let refused = one_more(self.refused);
-        let mut bytes = line.bytes;
-        let said = put_refused_line(&mut bytes, line.len, pairs, refusal);
-        let len = put_last_line(&mut bytes, said, pairs, refused);
+        let line = with_refused_line(begun, self.pairs, refusal);
         Listing {
-            receiver: receiver,
-            half: Half::Absent,
-            pairs: pairs,
-            refused: refused,
+            half: None,
+            refused,
             ended: true,
-            line: Line {
-                bytes: bytes,
-                at: line.at,
-                len: len,
-            },
+            line: with_last_line(line, self.pairs, refused),
+            ..self
         }
+    }
+
+    // Lists a whole pair, and more as long as there are more and there is room for any line. Nothing else decodes or puts a
+    // pair's line, so that the compiler has both inside the loop and keeps the receiver in registers.
+    pub(crate) fn list_pairs(self, input: &[u8], from: usize, out: &mut Writer) -> (Listing, usize)
+        requires { HasPair input.now from self.pairs out.old.out.now out.old.at }
+        ensures { Onward input.now from self out.old result out.new }
+    {
+        let mut receiver = self.receiver;
+        let mut pairs = self.pairs;
+        let mut refused = self.refused;
+        let mut taken = from;
+        loop {
+            let (next, heard) = receiver.decode(Pair(input[taken], input[taken + 1]));
+            put_line_of(out, pairs, heard);
+            refused = count_refusal(refused, heard);
+            receiver = next;
+            pairs += 1;
+            taken += 2;
+            if input.len() - taken < 2 || out.room() < LINE_LENGTH || MOST_PAIRS <= pairs {
+                break;
+            }
+        }
+        (between_pairs(receiver, pairs, refused), taken)
     }
 
     // The listing after a whole pair, its line waiting.
@@ -163,90 +159,55 @@ impl Listing {
         requires { self.pairs < most_pairs }
         ensures { result ≡ after_pair self (step self.receiver pair) }
     {
-        let pairs = self.pairs;
-        let refused = self.refused;
-        let ended = self.ended;
-        let receiver = self.receiver;
         let both = [pair.0, pair.1];
         let mut bytes = [0; LINE_LENGTH];
-        let listed = list_pairs(receiver, pairs, refused, &both, 0, &mut bytes, 0);
-        let next = listed.receiver;
+        let mut out = Writer {
+            out: &mut bytes,
+            at: 0,
+        };
+        let (listing, _) = self.list_pairs(&both, 0, &mut out);
+        let len = out.at;
         Listing {
-            receiver: next,
-            half: Half::Absent,
-            pairs: listed.pairs,
-            refused: listed.refused,
-            ended: ended,
-            line: Line {
-                bytes: bytes,
-                at: 0,
-                len: listed.written,
-            },
+            ended: self.ended,
+            line: Line { bytes, at: 0, len },
+            ..listing
         }
     }
 
     // The listing after a byte, where nothing waits to be written.
+    #[tactic(auto, unfolding(crate::specs::Pieces::absorbed))]
     pub(crate) fn absorb(self, byte: u8) -> Listing
         ensures { result ≡ absorbed self byte }
     {
-        let receiver = self.receiver;
-        let half = self.half;
-        let pairs = self.pairs;
-        let refused = self.refused;
-        let ended = self.ended;
-        let line = self.line;
-        if MOST_PAIRS <= pairs {
+        if MOST_PAIRS <= self.pairs {
             return self.refused_by(10, Line::new());
         }
-        match half {
-            Half::Absent => Listing {
-                receiver: receiver,
-                half: Half::Byte(byte),
-                pairs: pairs,
-                refused: refused,
-                ended: ended,
-                line: line,
+        match self.half {
+            None => Listing {
+                half: Some(byte),
+                ..self
             },
-            Half::Byte(first) => self.after_pair(Pair(first, byte)),
+            Some(first) => self.after_pair(Pair(first, byte)),
         }
     }
 
     // The end of the input: the last lines wait after what waits already.
+    #[tactic(auto, unfolding(crate::specs::Pieces::ended_listing))]
     pub fn end(self) -> Listing
         ensures { result ≡ ended_listing self }
     {
-        let ended = self.ended;
-        if ended {
+        if self.ended {
             return self;
         }
-        let receiver = self.receiver;
-        let half = self.half;
-        let pairs = self.pairs;
-        let refused = self.refused;
-        let line = self.line;
-        let mut bytes = line.bytes;
-        match half {
-            Half::Absent => {
-                let len = put_last_line(&mut bytes, line.len, pairs, refused);
-                Listing {
-                    receiver: receiver,
-                    half: Half::Absent,
-                    pairs: pairs,
-                    refused: refused,
-                    ended: true,
-                    line: Line {
-                        bytes: bytes,
-                        at: line.at,
-                        len: len,
-                    },
-                }
-            }
-            Half::Byte(_) => {
-                if pairs < MOST_PAIRS {
-                    return self.refused_by(9, line);
-                }
-                self.refused_by(10, line)
-            }
+        match self.half {
+            None => Listing {
+                half: None,
+                ended: true,
+                line: with_last_line(self.line, self.pairs, self.refused),
+                ..self
+            },
+            Some(_) if self.pairs < MOST_PAIRS => self.refused_by(9, self.line),
+            Some(_) => self.refused_by(10, self.line),
         }
     }
 
@@ -254,58 +215,55 @@ impl Listing {
     pub fn is_done(self) -> bool
         ensures { result ≡ is_done self }
     {
-        let line = self.line;
-        if line.has_more() {
-            return false;
-        }
-        self.ended
+        self.ended && !self.line.has_more()
     }
 
-    // The listing with what is left of its line.
-    pub(crate) fn with_line(self, line: Line) -> Listing
-        ensures { result ≡ with_line self line }
+    // Writes what waits, as far as there is room.
+    pub(crate) fn flush(self, out: &mut Writer) -> Listing
+        ensures flushes { Flushes self.line out.old result.line out.new }
+        ensures leaves { result ≡ with_line self result.line }
     {
-        let receiver = self.receiver;
-        let half = self.half;
-        let pairs = self.pairs;
-        let refused = self.refused;
-        let ended = self.ended;
         Listing {
-            receiver: receiver,
-            half: half,
-            pairs: pairs,
-            refused: refused,
-            ended: ended,
-            line: line,
+            line: self.line.flush(out),
+            ..self
         }
     }
 
     // Takes whole pairs and writes their lines straight into the output, as long as there is room for any line. Nothing
     // waits before it or after it.
-    pub(crate) fn read_pairs(self, input: &[u8], from: usize, out: &mut [u8], at: usize) -> Progress
-        requires { Between input.now from self out.old at }
-        ensures { Further input.now from self out.old at result out.new }
+    pub(crate) fn read_pairs(self, input: &[u8], from: usize, out: &mut Writer) -> (Listing, usize)
+        requires { Between input.now from self out.old.out.now out.old.at }
+        ensures { Further input.now from self out.old result out.new }
     {
-        let half = self.half;
-        let receiver = self.receiver;
-        let pairs = self.pairs;
-        let refused = self.refused;
-        if let Half::Absent = half {
-            if 2 <= input.len() - from && LINE_LENGTH <= out.len() - at && pairs < MOST_PAIRS {
-                let listed = list_pairs(receiver, pairs, refused, input, from, out, at);
-                let next = listed.receiver;
-                return Progress {
-                    taken: listed.taken,
-                    written: listed.written,
-                    listing: between_pairs(next, listed.pairs, listed.refused),
-                };
+        if self.half.is_none()
+            && 2 <= input.len() - from
+            && LINE_LENGTH <= out.room()
+            && self.pairs < MOST_PAIRS
+        {
+            return self.list_pairs(input, from, out);
+        }
+        (self, from)
+    }
+
+    // Takes bytes of the input and writes text into the output, as far as there is room.
+    pub(crate) fn read_into(self, input: &[u8], out: &mut Writer) -> (Listing, usize)
+        requires { out.old.at ≤ length out.old.out.now }
+        ensures { ReadsOn input.now self out.old result out.new }
+    {
+        let mut listing = self;
+        let mut taken = 0;
+        while taken < input.len() {
+            listing = listing.flush(out);
+            if listing.line.has_more() || listing.ended {
+                return (listing, taken);
+            }
+            (listing, taken) = listing.read_pairs(input, taken, out);
+            if taken < input.len() {
+                listing = listing.absorb(input[taken]);
+                taken += 1;
             }
         }
-        Progress {
-            taken: from,
-            written: at,
-            listing: self,
-        }
+        (listing.flush(out), taken)
     }
 
     // Takes bytes of the input and writes text into the output, as far as there is room. What waits goes first, and while
@@ -315,42 +273,12 @@ impl Listing {
     // `read` with no input. `is_done` ends it. Past the limit of pairs the listing ends by itself: after the byte that is
     // refused 10 nothing more is taken, however often it is offered, so a loop that waits for its input to be taken would
     // never end.
-    pub fn read(self, input: &[u8], output: &mut [u8]) -> Progress
+    pub fn read(self, input: &[u8], output: &mut [u8]) -> (Listing, Progress)
         ensures { read_outcome result output.new ≡ read_listing self input.now output.old }
     {
-        let mut listing = self;
-        let mut taken: usize = 0;
-        let mut written: usize = 0;
-        while taken < input.len() {
-            let line = listing.line;
-            let flushed = line.flush(&mut output[written..]);
-            let rest = flushed.line;
-            written += flushed.count;
-            listing = listing.with_line(rest);
-            if rest.has_more() || listing.ended {
-                return Progress {
-                    taken: taken,
-                    written: written,
-                    listing: listing,
-                };
-            }
-            let pairs = listing.read_pairs(input, taken, output, written);
-            let next = pairs.listing;
-            taken = pairs.taken;
-            written = pairs.written;
-            listing = next;
-            if taken < input.len() {
-                listing = listing.absorb(input[taken]);
-                taken += 1;
-            }
-        }
-        let line = listing.line;
-        let flushed = line.flush(&mut output[written..]);
-        let rest = flushed.line;
-        Progress {
-            taken: taken,
-            written: written + flushed.count,
-            listing: listing.with_line(rest),
-        }
+        let mut out = Writer { out: output, at: 0 };
+        let (listing, taken) = self.read_into(input, &mut out);
+        let written = out.at;
+        (listing, Progress { taken, written })
     }
 }

@@ -17,7 +17,8 @@ use Rattle.packet_lines.specs.Calls as calls
 use Rattle.packet_lines.specs.Calls.{Calls, Finished, Run, began, called, says_yet}
 use Rattle.packet_lines.specs.Packets.{packet_lines, packets_from}
 use Rattle.packet_lines.specs.Pieces.{Piece, Read, end_of, end_packets, piece_of, read_outcome, read_packets}
-use Rattle.packet_lines.specs.declared.listing.Progress.{Progress}
+use Rattle.lines.specs.declared.listing.Progress.{Progress}
+use Rattle.packet_lines.specs.declared.listing.PacketListing.{PacketListing}
 
 -- what every run keeps: what it wrote, then what its state has still to say, is the text of the whole
 record Kept (bytes : List ℕ) (r : Run) : Type 0 where
@@ -32,7 +33,7 @@ began_kept bytes = record { sound = fresh_sound; text = ap (λ (s : Reader). pac
 abbrev after_piece : Run → Piece → Run
 after_piece r p = record { text = r.text ++ p.text; listing = p.next; left = drop p.taken r.left }
 
-as_a_piece : (r : Run) (output : List ℕ) (q : Progress) (after : List ℕ) (p : Piece) → read_outcome q after ≡ (p.taken, length p.text, p.next, p.text ++ drop (length p.text) output) → called q after r ≡ after_piece r p
+as_a_piece : (r : Run) (output : List ℕ) (q : PacketListing × Progress) (after : List ℕ) (p : Piece) → read_outcome q after ≡ (p.taken, length p.text, p.next, p.text ++ drop (length p.text) output) → called q after r ≡ after_piece r p
 as_a_piece r output q after p promised =
     ap {B = Run} (λ (x : Read). record { text = r.text ++ take x.1 x.3; listing = x.2; left = drop x.0 r.left }) promised
     ∙ ap {B = Run} (λ (xs : List ℕ). record { text = r.text ++ xs; listing = p.next; left = drop p.taken r.left }) (output_begins_with p.text output)
@@ -46,7 +47,7 @@ piece_kept bytes r k p goes = record {
       ∙ sym (append_assoc r.text p.text (says_yet p.next (drop p.taken r.left)));
 }
 
-read_kept : (bytes : List ℕ) (r : Run) (n : ℕ) (output : List ℕ) (q : Progress) (after : List ℕ) → read_outcome q after ≡ read_packets r.listing (take n r.left) output → Kept bytes r → Kept bytes (called q after r)
+read_kept : (bytes : List ℕ) (r : Run) (n : ℕ) (output : List ℕ) (q : PacketListing × Progress) (after : List ℕ) → read_outcome q after ≡ read_packets r.listing (take n r.left) output → Kept bytes r → Kept bytes (called q after r)
 unfolding read_packets
 read_kept bytes r n output q after promised k =
     let offered = take n r.left in
@@ -61,12 +62,12 @@ read_kept bytes r n output q after promised k =
       goes.1,
     ))
 
-end_kept : (bytes : List ℕ) (r : Run) (output : List ℕ) (q : Progress) (after : List ℕ) → Finished r → read_outcome q after ≡ end_packets r.listing output → Kept bytes r → Kept bytes (called q after r)
+end_kept : (bytes : List ℕ) (r : Run) (output : List ℕ) (q : PacketListing × Progress) (after : List ℕ) → Finished r → read_outcome q after ≡ end_packets r.listing output → Kept bytes r → Kept bytes (called q after r)
 unfolding end_packets
 end_kept bytes r output q after finished promised k =
-    let None : r.listing.ended ≡ false → r.left ≡ [] = λ on. ⊎_elim (λ e. e) (λ e. absurd (true≢false (sym e ∙ on))) finished in
+    let none : r.listing.ended ≡ false → r.left ≡ [] = λ on. ⊎_elim (λ e. e) (λ e. absurd (true≢false (sym e ∙ on))) finished in
     subst (Kept bytes) (sym (as_a_piece r output q after (end_of r.listing (length output)) promised))
-    (piece_kept bytes r k (end_of r.listing (length output)) (an_end_says r.listing k.sound r.left (length output) None))
+    (piece_kept bytes r k (end_of r.listing (length output)) (an_end_says r.listing k.sound r.left (length output) none))
 
 calls_kept : (bytes : List ℕ) {r last : Run} → Calls r last → Kept bytes r → Kept bytes last
 calls_kept bytes calls.none k = k

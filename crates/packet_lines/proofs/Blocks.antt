@@ -87,5 +87,5 @@ read_in_blocks blocks =
 
 -- a block that has bytes does not end the stream
 pub after_some_bytes : (l : PacketListing) (block : List ℕ) → 0 < length block → after_block l block ≡ (whole_piece l block).next
-after_some_bytes l [] Some = absurd (omega (arith, Some))
-after_some_bytes l (a ∷ rest) Some = refl
+after_some_bytes l [] some = absurd (omega (arith, some))
+after_some_bytes l (a ∷ rest) some = refl

@@ -1,6 +1,7 @@
 -- How long the text of a byte is: a packet's line has at most 123 bytes, and no byte makes more text than there is room for
 -- where it is taken. Neither does the end.
 -- Assumes nothing.
+use Rattle.std.specs.Prelude.{Option, None, Some}
 use Prim.Native.Nat.{ℕ, ◌+◌, ◌≤◌}
 use lib.Dec.{leb}
 use lib.ListN.{length, length-append}
@@ -19,8 +20,6 @@ use Rattle.extended.specs.declared.class.Class.{Class}
 use Rattle.lines.proofs.Bounds.{decimal_short}
 use Rattle.lines.specs.Listing.{most_pairs}
 use Rattle.lines.specs.Words.{decimal, line, refused_words}
-use Rattle.lines.specs.declared.listing.Half.TheVariants as half
-use Rattle.lines.specs.declared.listing.Half.{Half}
 use Rattle.packet_lines.specs.Pieces.{Turn, any_text, by_half, end_words, of_byte, of_end, refused_by, count_half}
 use Rattle.packet_lines.specs.Words.{characters, contents_words, hex_bytes, last_line, line_of, packet_words}
 use Rattle.packet_lines.specs.declared.listing.PacketListing.{PacketListing}
@@ -62,9 +61,9 @@ refused_by_short : (m : ℕ) (l : PacketListing) → length (refused_by m l).tex
 refused_by_short m l =
     omega (arith, length-append (line l.pairs (refused_words m)) (last_line l.pairs l.packets (refused_by m l).next.refused), line_short l.pairs 18 (refused_words m) (refused_short m), last_short l.pairs l.packets (refused_by m l).next.refused)
 
-half_fits : (l : PacketListing) (h : Half) (a : ℕ) → length (by_half l h a).text ≤ any_text
-half_fits l half.Absent a = omega arith
-half_fits l (half.Byte x) a =
+half_fits : (l : PacketListing) (h : Option ℕ) (a : ℕ) → length (by_half l h a).text ≤ any_text
+half_fits l None a = omega arith
+half_fits l (Some x) a =
     omega (arith, line_of_short l.pairs (step l.state (pair x a)).0 (few_reported l.state (pair x a)))
 
 pub a_byte_fits : (l : PacketListing) (a : ℕ) → length (of_byte l a).text ≤ any_text
@@ -78,6 +77,6 @@ a_byte_fits l a = by_limit (leb most_pairs l.pairs)
 pub the_end_fits : (l : PacketListing) → length (of_end l).text ≤ any_text
 the_end_fits l = by_half_lem l.half
   where
-    by_half_lem : (h : Half) → length (end_words h l.pairs ++ last_line l.pairs l.packets (count_half h l.refused)) ≤ any_text
-    by_half_lem half.Absent = omega (arith, last_short l.pairs l.packets l.refused)
-    by_half_lem (half.Byte x) = omega (arith, refused_by_short (cond (leb most_pairs l.pairs) 10 9) l)
+    by_half_lem : (h : Option ℕ) → length (end_words h l.pairs ++ last_line l.pairs l.packets (count_half h l.refused)) ≤ any_text
+    by_half_lem None = omega (arith, last_short l.pairs l.packets l.refused)
+    by_half_lem (Some x) = omega (arith, refused_by_short (cond (leb most_pairs l.pairs) 10 9) l)

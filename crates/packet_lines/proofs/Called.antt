@@ -14,7 +14,7 @@ use Rattle.packet_lines.proofs.ProgressLemmas.{a_byte_is_taken, end_within_room,
 use Rattle.packet_lines.specs.Blocks.{whole_end, whole_piece}
 use Rattle.packet_lines.specs.Pieces.{Piece, Read, after_byte, any_text, end_of, end_packets, of_byte, of_end, piece_of, read_as, read_outcome, read_packets, said_only, stays}
 use Rattle.packet_lines.specs.declared.listing.PacketListing.{PacketListing}
-use Rattle.packet_lines.specs.declared.listing.Progress.{Progress}
+use Rattle.lines.specs.declared.listing.Progress.{Progress}
 
 -- the state after an input: the same in one piece, and in two
 pub after_the_end : (l : PacketListing) (input : List ℕ) → l.ended ≡ true → (whole_piece l input).next ≡ l
@@ -43,7 +43,7 @@ same_length : (text output : List ℕ) → length text ≤ length output → len
 same_length text output fits =
     omega (arith, fits, length-append text (drop (length text) output), length-drop (length text) output)
 
-module _ (l : PacketListing) (input output : List ℕ) (p : Progress) (after : List ℕ) (promised : read_outcome p after ≡ read_packets l input output) where
+module _ (l : PacketListing) (input output : List ℕ) (p : PacketListing × Progress) (after : List ℕ) (promised : read_outcome p after ≡ read_packets l input output) where
   abbrev piece : Piece
   piece = piece_of l input (length output)
 
@@ -51,44 +51,44 @@ module _ (l : PacketListing) (input output : List ℕ) (p : Progress) (after : L
   unfolding read_packets
   as_a_piece = promised
 
-  takes : p.taken ≡ piece.taken
+  takes : p.1.taken ≡ piece.taken
   takes = ap (λ (x : Read). x.0) as_a_piece
 
-  pub takes_no_more : p.taken ≤ length input
+  pub takes_no_more : p.1.taken ≤ length input
   takes_no_more = omega (arith, takes, no_more_than_offered input l (length output))
 
-  pub writes_no_more : p.written ≤ length output
+  pub writes_no_more : p.1.written ≤ length output
   writes_no_more = omega (arith, ap (λ (x : Read). x.1) as_a_piece, no_more_than_room input l (length output))
 
   pub same_room : length after ≡ length output
   same_room =
       ap (λ (x : Read). length x.3) as_a_piece ∙ same_length piece.text output (no_more_than_room input l (length output))
 
-  pub takes_some : l.ended ≡ false → any_text ≤ length output → 0 < length input → 0 < p.taken
-  takes_some on room Some = omega (arith, takes, of input Some)
+  pub takes_some : l.ended ≡ false → any_text ≤ length output → 0 < length input → 0 < p.1.taken
+  takes_some on room some = omega (arith, takes, of input some)
     where
       of : (xs : List ℕ) → 0 < length xs → 0 < (piece_of l xs (length output)).taken
-      of [] None = absurd (omega (arith, None))
+      of [] none = absurd (omega (arith, none))
       of (a ∷ rest) more = a_byte_is_taken l a rest (length output) on room
 
-  pub ends_the_same : (whole_piece p.listing (drop p.taken input)).next ≡ (whole_piece l input).next
+  pub ends_the_same : (whole_piece p.0 (drop p.1.taken input)).next ≡ (whole_piece l input).next
   ends_the_same =
       ap₂ (λ (x : PacketListing) (n : ℕ). (whole_piece x (drop n input)).next) (ap (λ (x : Read). x.2) as_a_piece) takes
       ∙ goes_on_so input l (length output)
 
-module _ (l : PacketListing) (output : List ℕ) (p : Progress) (after : List ℕ) (promised : read_outcome p after ≡ end_packets l output) where
+module _ (l : PacketListing) (output : List ℕ) (p : PacketListing × Progress) (after : List ℕ) (promised : read_outcome p after ≡ end_packets l output) where
   as_the_end : read_outcome p after ≡ read_as (end_of l (length output)) output
   unfolding end_packets
   as_the_end = promised
 
-  pub end_writes_no_more : p.written ≤ length output
+  pub end_writes_no_more : p.1.written ≤ length output
   end_writes_no_more = omega (arith, ap (λ (x : Read). x.1) as_the_end, end_within_room l (length output))
 
   pub end_same_room : length after ≡ length output
   end_same_room =
       ap (λ (x : Read). length x.3) as_the_end ∙ same_length (end_of l (length output)).text output (end_within_room l (length output))
 
-  pub end_leaves : any_text ≤ length output → p.listing ≡ (whole_end l).next
+  pub end_leaves : any_text ≤ length output → p.0 ≡ (whole_end l).next
   end_leaves room =
       ap (λ (x : Read). x.2) as_the_end
       ∙ ap (λ (full : Bool). (cond (cond l.ended true full) (stays l) (said_only (of_end l))).next) (le-ltb (length output) any_text room)

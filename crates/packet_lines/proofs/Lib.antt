@@ -1,6 +1,7 @@
 pub mod AnyCutting
 pub mod Blocks
 pub mod Bounds
+pub mod Bytewise
 pub mod Called
 pub mod OneAnswer
 pub mod ProgressLemmas

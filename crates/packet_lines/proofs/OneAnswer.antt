@@ -6,8 +6,9 @@ use mathlib.Core.List.{List}
 use mathlib.Core.Path.{ap}
 use Rattle.code.proofs.OneAnswer.{Injective}
 use Rattle.packet_lines.specs.Pieces.{Read, read_outcome}
-use Rattle.packet_lines.specs.declared.listing.Progress.{Progress}
+use Rattle.packet_lines.specs.declared.listing.PacketListing.{PacketListing}
+use Rattle.lines.specs.declared.listing.Progress.{Progress}
 
-pub read_injective : Injective (λ (r : Progress × List ℕ). read_outcome r.0 r.1)
+pub read_injective : Injective (λ (r : (PacketListing × Progress) × List ℕ). read_outcome r.0 r.1)
 read_injective r s e =
-    ap {B = Progress × List ℕ} (λ (w : Read). (record { taken = w.0; written = w.1; listing = w.2 }, w.3)) e
+    ap {B = (PacketListing × Progress) × List ℕ} (λ (w : Read). ((w.2, record { taken = w.0; written = w.1 }), w.3)) e

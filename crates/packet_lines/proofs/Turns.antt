@@ -1,6 +1,7 @@
 -- What a byte and the end say, from a state that calls leave of a fresh one. A byte says its part of what its state has still
 -- to say, and leaves the rest to the next; the end says all of it.
 -- Assumes nothing.
+use Rattle.std.specs.Prelude.{Option, None, Some}
 use Prim.Native.Nat.{ℕ, ◌+◌, ◌-◌, ◌≤◌, ◌<◌}
 use borrow.Author.Tests.{leb-false, lt-leb}
 use lib.Dec.{leb, ltb}
@@ -19,8 +20,6 @@ use Rattle.lines.proofs.AnyCutting.{drop_more, one_more_lem}
 use Rattle.lines.specs.Cutting.{half_bytes}
 use Rattle.lines.specs.Listing.{most_pairs}
 use Rattle.lines.specs.Words.{line, refused_words}
-use Rattle.lines.specs.declared.listing.Half.TheVariants as half
-use Rattle.lines.specs.declared.listing.Half.{Half}
 use Rattle.packet_lines.specs.Calls.{says_yet}
 use Rattle.packet_lines.specs.Packets.{ends_refused, packets_from, packets_in, refusals}
 use Rattle.packet_lines.specs.Pieces.{Piece, Turn, after_byte, any_text, by_half, end_of, end_words, fresh_listing, of_byte, of_end, of_pair, piece_of, refused_by, said_only, stays, with_half, count_half, count_packet, count_refusal}
@@ -83,12 +82,12 @@ abbrev pub SaysOn : Turn → List ℕ → List ℕ
 SaysOn t more = t.text ++ says_yet t.next more
 
 module _ (l : PacketListing) (on : l.ended ≡ false) (o : Open l) where
-  limit_says : (h : Half) (a : ℕ) (more : List ℕ) → leb most_pairs l.pairs ≡ true → packets_from (reader_of l.state) l.pairs l.packets l.refused (half_bytes h ++ (a ∷ more)) ≡ SaysOn (refused_by 10 l) more
+  limit_says : (h : Option ℕ) (a : ℕ) (more : List ℕ) → leb most_pairs l.pairs ≡ true → packets_from (reader_of l.state) l.pairs l.packets l.refused (half_bytes h ++ (a ∷ more)) ≡ SaysOn (refused_by 10 l) more
   limit_says h a more e = by h ∙ sym (append-nil (refused_by 10 l).text ∙ refused_says 10 l o)
     where
-      by : (h : Half) → packets_from (reader_of l.state) l.pairs l.packets l.refused (half_bytes h ++ (a ∷ more)) ≡ ends_refused 10 l.pairs l.packets l.refused
-      by half.Absent = at_the_limit (reader_of l.state) l.pairs l.packets l.refused a more e
-      by (half.Byte x) = at_the_limit (reader_of l.state) l.pairs l.packets l.refused x (a ∷ more) e
+      by : (h : Option ℕ) → packets_from (reader_of l.state) l.pairs l.packets l.refused (half_bytes h ++ (a ∷ more)) ≡ ends_refused 10 l.pairs l.packets l.refused
+      by None = at_the_limit (reader_of l.state) l.pairs l.packets l.refused a more e
+      by (Some x) = at_the_limit (reader_of l.state) l.pairs l.packets l.refused x (a ∷ more) e
 
   pair_says : (x a : ℕ) (more : List ℕ) → l.pairs < most_pairs → packets_from (reader_of l.state) l.pairs l.packets l.refused (x ∷ a ∷ more) ≡ SaysOn (of_pair l (step l.state (pair x a))) more
   pair_says x a more less =
@@ -101,9 +100,9 @@ module _ (l : PacketListing) (on : l.ended ≡ false) (o : Open l) where
       ∙ ap₂ (λ (n q : ℕ). line_of l.pairs r.0 ++ packets_from (reader_of r.2) (l.pairs + 1) n q more) (sym found) (sym counted)
       ∙ ap (λ (xs : List ℕ). line_of l.pairs r.0 ++ xs) (sym (open_says (of_pair l r).next more on)))
 
-  half_says : (h : Half) (a : ℕ) (more : List ℕ) → leb most_pairs l.pairs ≡ false → packets_from (reader_of l.state) l.pairs l.packets l.refused (half_bytes h ++ (a ∷ more)) ≡ SaysOn (by_half l h a) more
-  half_says half.Absent a more e = sym (open_says (with_half l a) more on)
-  half_says (half.Byte x) a more e = pair_says x a more (leb-false most_pairs l.pairs e)
+  half_says : (h : Option ℕ) (a : ℕ) (more : List ℕ) → leb most_pairs l.pairs ≡ false → packets_from (reader_of l.state) l.pairs l.packets l.refused (half_bytes h ++ (a ∷ more)) ≡ SaysOn (by_half l h a) more
+  half_says None a more e = sym (open_says (with_half l a) more on)
+  half_says (Some x) a more e = pair_says x a more (leb-false most_pairs l.pairs e)
 
   pub a_byte_says : (a : ℕ) (more : List ℕ) → says_yet l (a ∷ more) ≡ SaysOn (of_byte l a) more
   unfolding of_byte
@@ -124,9 +123,9 @@ module _ (l : PacketListing) (on : l.ended ≡ false) (o : Open l) where
         whole = step_whole l.state (pair x a) o.whole;
       }
 
-  half_open : (h : Half) (a : ℕ) → leb most_pairs l.pairs ≡ false → Open (by_half l h a).next
-  half_open half.Absent a e = record { pairs = o.pairs; counts = o.counts; whole = o.whole }
-  half_open (half.Byte x) a e = pair_open x a (leb-false most_pairs l.pairs e)
+  half_open : (h : Option ℕ) (a : ℕ) → leb most_pairs l.pairs ≡ false → Open (by_half l h a).next
+  half_open None a e = record { pairs = o.pairs; counts = o.counts; whole = o.whole }
+  half_open (Some x) a e = pair_open x a (leb-false most_pairs l.pairs e)
 
   pub a_byte_sound : (a : ℕ) → Sound (of_byte l a).next
   unfolding of_byte
@@ -144,9 +143,9 @@ module _ (l : PacketListing) (on : l.ended ≡ false) (o : Open l) where
       by_limit true = sym (refused_says 10 l o)
       by_limit false = sym (refused_says 9 l o)
 
-      by_half_lem : (h : Half) → packets_from (reader_of l.state) l.pairs l.packets l.refused (half_bytes h ++ []) ≡ end_words h l.pairs ++ last_line l.pairs l.packets (count_half h l.refused)
-      by_half_lem half.Absent = refl
-      by_half_lem (half.Byte x) = by_limit (leb most_pairs l.pairs)
+      by_half_lem : (h : Option ℕ) → packets_from (reader_of l.state) l.pairs l.packets l.refused (half_bytes h ++ []) ≡ end_words h l.pairs ++ last_line l.pairs l.packets (count_half h l.refused)
+      by_half_lem None = refl
+      by_half_lem (Some x) = by_limit (leb most_pairs l.pairs)
 
 -- a piece: what was still to be said is what it says, then what is still to be said with the input not taken
 abbrev pub Goes : PacketListing → List ℕ → List ℕ → Piece → Type 0
@@ -186,10 +185,10 @@ said_at_the_end l on sound = (
 )
 
 pub an_end_says : (l : PacketListing) → Sound l → (left : List ℕ) (room : ℕ) → (l.ended ≡ false → left ≡ []) → Ends l left (end_of l room)
-an_end_says l sound left room None = unless_stopped l.ended refl (ltb room any_text)
+an_end_says l sound left room none = unless_stopped l.ended refl (ltb room any_text)
   where
     unless_stopped : (ended : Bool) → l.ended ≡ ended → (full : Bool) → Ends l left (cond (cond ended true full) (stays l) (said_only (of_end l)))
     unless_stopped true e full = (refl, sound)
     unless_stopped false e true = (refl, sound)
     unless_stopped false e false =
-        subst (λ (xs : List ℕ). Ends l xs (said_only (of_end l))) (sym (None e)) (said_at_the_end l e sound)
+        subst (λ (xs : List ℕ). Ends l xs (said_only (of_end l))) (sym (none e)) (said_at_the_end l e sound)

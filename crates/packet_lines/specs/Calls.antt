@@ -6,7 +6,7 @@ use Rattle.lines.specs.Cutting.{half_bytes}
 use Rattle.packet_lines.specs.Packets.{packets_from}
 use Rattle.packet_lines.specs.Pieces.{end_packets, fresh_listing, read_outcome, read_packets}
 use Rattle.packet_lines.specs.declared.listing.PacketListing.{PacketListing}
-use Rattle.packet_lines.specs.declared.listing.Progress.{Progress}
+use Rattle.lines.specs.declared.listing.Progress.{Progress}
 
 -- what a state has still to say, with the input that is left
 abbrev pub says_yet : PacketListing → List ℕ → List ℕ
@@ -22,11 +22,11 @@ abbrev pub began : List ℕ → Run
 began bytes = record { text = []; listing = fresh_listing; left = bytes }
 
 -- after a call that answered so and left this output: what it wrote is kept
-abbrev pub called : Progress → List ℕ → Run → Run
+abbrev pub called : PacketListing × Progress → List ℕ → Run → Run
 called p output r = record {
-  text = r.text ++ take p.written output;
-  listing = p.listing;
-  left = drop p.taken r.left;
+  text = r.text ++ take p.1.written output;
+  listing = p.0;
+  left = drop p.1.taken r.left;
 }
 
 -- nothing is left of the input, or the limit of pairs has ended the listing by itself
@@ -35,6 +35,6 @@ Finished r = (r.left ≡ []) ⊎ (r.listing.ended ≡ true)
 
 -- calls as `read` and `end` promise them, `end` where the run is finished
 pub data Calls : Run → Run → Type 0 where
-  None : {r : Run} → Calls r r
-  reads : {r last : Run} (n : ℕ) (output : List ℕ) (p : Progress) (after : List ℕ) → read_outcome p after ≡ read_packets r.listing (take n r.left) output → Calls (called p after r) last → Calls r last
-  ends : {r last : Run} (output : List ℕ) (p : Progress) (after : List ℕ) → Finished r → read_outcome p after ≡ end_packets r.listing output → Calls (called p after r) last → Calls r last
+  none : {r : Run} → Calls r r
+  reads : {r last : Run} (n : ℕ) (output : List ℕ) (p : PacketListing × Progress) (after : List ℕ) → read_outcome p after ≡ read_packets r.listing (take n r.left) output → Calls (called p after r) last → Calls r last
+  ends : {r last : Run} (output : List ℕ) (p : PacketListing × Progress) (after : List ℕ) → Finished r → read_outcome p after ≡ end_packets r.listing output → Calls (called p after r) last → Calls r last

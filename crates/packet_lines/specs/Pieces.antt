@@ -1,28 +1,24 @@
 -- The same text in pieces, in the port's own words: what a byte and the end do to a state, and how much is taken. Any state
 -- may be handed in; one that no call leaves goes on as it stands.
+use Rattle.std.specs.Prelude.{Option, None, Some}
 use Rattle.std.specs.Prelude.{ℕ, ◌+◌, ◌-◌, leb, ltb, length, Bool, true, false, cond, List, [], ◌∷◌, ◌++◌, ◌≡◌}
 use Rattle.code.specs.Outcome.{Outcome, answer, refused}
 use Rattle.code.specs.Pair.{pair}
 use Rattle.extended.specs.Extended.{Report, event, nothing, packet}
-use Rattle.extended.specs.State.{Step, fresh_state, given_outcome, step}
+use Rattle.extended.specs.State.{Step, fresh_state, step}
 use Rattle.extended.specs.declared.state.ExtendedState.{ExtendedState}
-use Rattle.extended.specs.declared.state.Given.{Given}
 use Rattle.lines.specs.Line.{over}
 use Rattle.lines.specs.Listing.{most_pairs}
 use Rattle.lines.specs.Pieces.{one_more}
-use Rattle.lines.specs.Put.{Placed, put_all}
+use Rattle.lines.specs.Put.{Puts}
 use Rattle.lines.specs.Words.{line, refused_words}
-use Rattle.lines.specs.declared.listing.Half.TheVariants as half
-use Rattle.lines.specs.declared.listing.Half.{Half}
+use Rattle.lines.specs.declared.put.Writer.{Writer}
 use Rattle.packet_lines.specs.Words.{last_line, line_of}
 use Rattle.packet_lines.specs.declared.listing.PacketListing.{PacketListing}
-use Rattle.packet_lines.specs.declared.listing.Progress.{Progress}
-use Rattle.packet_lines.specs.declared.listing.Said.{Said}
-use Rattle.packet_lines.specs.declared.words.Entry.TheVariants as entry
-use Rattle.packet_lines.specs.declared.words.Entry.{Entry}
+use Rattle.lines.specs.declared.listing.Progress.{Progress}
 
 abbrev pub fresh_listing : PacketListing
-fresh_listing = record { state = fresh_state; half = half.Absent; pairs = 0; packets = 0; refused = 0; ended = false }
+fresh_listing = record { state = fresh_state; half = None; pairs = 0; packets = 0; refused = 0; ended = false }
 
 -- one packet or one refusal more; a count beyond the limit of pairs, which no stream raises further, stays
 abbrev pub count_packet : Outcome Report → ℕ → ℕ
@@ -44,7 +40,7 @@ pub record Turn : Type 0 where
 abbrev pub closed : PacketListing → ℕ → PacketListing
 closed l q = record {
   state = l.state;
-  half = half.Absent;
+  half = None;
   pairs = l.pairs;
   packets = l.packets;
   refused = q;
@@ -61,7 +57,7 @@ refused_by m l = ending l (line l.pairs (refused_words m)) (one_more l.refused)
 abbrev pub with_half : PacketListing → ℕ → PacketListing
 with_half l a = record {
   state = l.state;
-  half = half.Byte a;
+  half = Some a;
   pairs = l.pairs;
   packets = l.packets;
   refused = l.refused;
@@ -72,7 +68,7 @@ with_half l a = record {
 abbrev pub counted : PacketListing → ExtendedState → Outcome Report → PacketListing
 counted l s o = record {
   state = s;
-  half = half.Absent;
+  half = None;
   pairs = l.pairs + 1;
   packets = count_packet o l.packets;
   refused = count_refusal o l.refused;
@@ -82,21 +78,21 @@ counted l s o = record {
 abbrev pub of_pair : PacketListing → Step → Turn
 of_pair l r = record { text = line_of l.pairs r.0; next = counted l r.2 r.0 }
 
-abbrev pub by_half : PacketListing → Half → ℕ → Turn
-by_half l half.Absent a = record { text = []; next = with_half l a }
-by_half l (half.Byte x) a = of_pair l (step l.state (pair x a))
+abbrev pub by_half : PacketListing → Option ℕ → ℕ → Turn
+by_half l None a = record { text = []; next = with_half l a }
+by_half l (Some x) a = of_pair l (step l.state (pair x a))
 
 unfoldable pub of_byte : PacketListing → ℕ → Turn
 of_byte l a = cond (leb most_pairs l.pairs) (refused_by 10 l) (by_half l l.half a)
 
 -- the end of the input: half a pair is refused 9, or 10 in its place at the limit
-abbrev pub end_words : Half → ℕ → List ℕ
-end_words half.Absent k = []
-end_words (half.Byte x) k = line k (refused_words (cond (leb most_pairs k) 10 9))
+abbrev pub end_words : Option ℕ → ℕ → List ℕ
+end_words None k = []
+end_words (Some x) k = line k (refused_words (cond (leb most_pairs k) 10 9))
 
-abbrev pub count_half : Half → ℕ → ℕ
-count_half half.Absent q = q
-count_half (half.Byte x) q = one_more q
+abbrev pub count_half : Option ℕ → ℕ → ℕ
+count_half None q = q
+count_half (Some x) q = one_more q
 
 abbrev pub of_end : PacketListing → Turn
 of_end l = ending l (end_words l.half l.pairs) (count_half l.half l.refused)
@@ -138,8 +134,8 @@ end_of l room = cond (stops l room) (stays l) (said_only (of_end l))
 abbrev pub Read : Type 0
 Read = ℕ × ℕ × PacketListing × List ℕ
 
-abbrev pub read_outcome : Progress → List ℕ → Read
-read_outcome r output = (r.taken, r.written, r.listing, output)
+abbrev pub read_outcome : PacketListing × Progress → List ℕ → Read
+read_outcome r output = (r.1.taken, r.1.written, r.0, output)
 
 abbrev pub read_as : Piece → List ℕ → Read
 read_as p output = (p.taken, length p.text, p.next, over p.text output)
@@ -154,21 +150,7 @@ end_packets l output = read_as (end_of l (length output)) output
 abbrev pub is_done : PacketListing → Bool
 is_done l = l.ended
 
--- For helpers: what a pair enters into the text, where events make no line; and that a turn's text was put from a place on,
--- with the state after it.
-abbrev pub without_event : Outcome Report → Outcome Report
-without_event (answer nothing) = answer nothing
-without_event (answer (event e)) = answer nothing
-without_event (answer (packet c t bs)) = answer (packet c t bs)
-without_event (refused m) = refused m
-
-abbrev pub entry_outcome : Entry → List ℕ → Outcome Report
-entry_outcome entry.Nothing bs = answer nothing
-entry_outcome (entry.Packet c t) bs = answer (packet c t bs)
-entry_outcome (entry.Refused m) bs = refused m
-
-abbrev pub Enters : Entry → Given → Type 0
-Enters x g = (bs : List ℕ) → entry_outcome x bs ≡ without_event (given_outcome g bs)
-
-abbrev pub Says : Turn → Placed → Said → List ℕ → Type 0
-Says t s r after = ((r.written, after) ≡ put_all s t.text) × (r.listing ≡ t.next)
+-- For helpers: a turn's text was put, and its state is left.
+pub record Says (t : Turn) (w : Writer) (now : PacketListing) (next : Writer) : Type 0 where
+  pub puts : Puts w t.text next
+  pub leaves : now ≡ t.next

@@ -6,4 +6,5 @@
 pub mod listing;
 pub mod words;
 
-pub use listing::{PacketListing, Progress, ROOM};
+pub use lines::Progress;
+pub use listing::{PacketListing, ROOM};

@@ -1,197 +1,147 @@
-// The words of the lines, put into lent memory from a place on.
-ghost use Rattle.std.specs.Prelude.{◌++◌, ◌≡◌, min, take};
-ghost use Rattle.extended.specs.State.{contents_of};
-ghost use Rattle.lines.specs.Put.{put_all};
+// The words of the lines, put by a writer.
+ghost use Rattle.std.specs.Prelude.{◌++◌, ◌≡◌};
+ghost use Rattle.extended.specs.State.{contents_of, given_outcome};
+ghost use Rattle.lines.specs.Put.{Puts};
 ghost use Rattle.lines.specs.Words.{decimal, line, refused_words};
-ghost use Rattle.packet_lines.specs.Pieces.{entry_outcome};
 ghost use Rattle.packet_lines.specs.Words.{character, characters, contents_words, hex_byte, hex_bytes, last_line, line_of, packet_data, packet_words};
 
-use extended::{Class, Contents};
-use lines::put::{hex_digit, put, put_decimal, put_word};
+use extended::{Class, Contents, Given};
+use lines::put::{Writer, hex_digit};
 use lines::words::put_refused_line;
 
 // A packet has at most so many content bytes.
 const MOST_CONTENTS: usize = 32;
 
 // Two hex digits.
-pub(crate) fn put_hex_byte(out: &mut [u8], at: usize, byte: u8) -> usize
-    ensures { (result, out.new) ≡ put_all (at, out.old) (hex_byte byte) }
+pub(crate) fn put_hex_byte(out: &mut Writer, byte: u8)
+    ensures { Puts out.old (hex_byte byte) out.new }
 {
-    let half = put(out, at, hex_digit(byte / 16));
-    put(out, half, hex_digit(byte))
+    out.put(hex_digit(byte / 16));
+    out.put(hex_digit(byte));
 }
 
 // Two hex digits a byte.
-pub(crate) fn put_hex(out: &mut [u8], at: usize, bytes: &[u8]) -> usize
-    ensures { (result, out.new) ≡ put_all (at, out.old) (hex_bytes bytes.now) }
+pub(crate) fn put_hex(out: &mut Writer, bytes: &[u8])
+    ensures { Puts out.old (hex_bytes bytes.now) out.new }
 {
-    let mut next = at;
-    let mut i: usize = 0;
-    while i < bytes.len() {
-        next = put_hex_byte(out, next, bytes[i]);
-        i += 1;
+    for &byte in bytes {
+        put_hex_byte(out, byte);
     }
-    next
 }
 
 // A byte as a character: what is not 20 to 7E is a point.
 pub(crate) fn shown(byte: u8) -> u8
     ensures { result ≡ character byte }
 {
-    if 0x20 <= byte && byte <= 0x7E {
-        return byte;
+    match byte {
+        0x20..=0x7E => byte,
+        _ => b'.',
     }
-    0x2E
 }
 
 // A character a byte.
-pub(crate) fn put_shown(out: &mut [u8], at: usize, bytes: &[u8]) -> usize
-    ensures { (result, out.new) ≡ put_all (at, out.old) (characters bytes.now) }
+pub(crate) fn put_shown(out: &mut Writer, bytes: &[u8])
+    ensures { Puts out.old (characters bytes.now) out.new }
 {
-    let mut next = at;
-    let mut i: usize = 0;
-    while i < bytes.len() {
-        next = put(out, next, shown(bytes[i]));
-        i += 1;
+    for &byte in bytes {
+        out.put(shown(byte));
     }
-    next
-}
-
-pub(crate) fn smaller(a: usize, b: usize) -> usize
-    ensures { result ≡ min a b }
-{
-    if a < b {
-        return a;
-    }
-    b
 }
 
 // Bytes as hex and as characters.
-pub(crate) fn put_bytes(out: &mut [u8], at: usize, bytes: &[u8]) -> usize
-    ensures { (result, out.new) ≡ put_all (at, out.old) (contents_words bytes.now) }
+#[tactic(auto, using(lines::proofs::Puts::put_parts))]
+pub(crate) fn put_bytes(out: &mut Writer, bytes: &[u8])
+    ensures { Puts out.old (contents_words bytes.now) out.new }
 {
-    let hexed = put_hex(out, at, bytes);
-    let opened = put_word(out, hexed, b" \"");
-    let said = put_shown(out, opened, bytes);
-    put(out, said, 0x22)
+    put_hex(out, bytes);
+    out.put_word(b" \"");
+    put_shown(out, bytes);
+    out.put(b'"');
 }
 
-// The first bytes, so many at most.
-pub(crate) fn put_first(out: &mut [u8], at: usize, bytes: &[u8], most: usize) -> usize
-    ensures { (result, out.new) ≡ put_all (at, out.old) (contents_words (take most bytes.now)) }
+pub(crate) fn put_contents(out: &mut Writer, contents: Contents)
+    ensures { Puts out.old (contents_words (contents_of contents)) out.new }
 {
-    let count = smaller(most, bytes.len());
-    put_bytes(out, at, &bytes[..count])
-}
-
-pub(crate) fn put_contents(out: &mut [u8], at: usize, contents: Contents) -> usize
-    ensures { (result, out.new) ≡ put_all (at, out.old) (contents_words (contents_of contents)) }
-{
-    let bytes = contents.bytes;
-    let most = smaller(MOST_CONTENTS, contents.length as usize);
-    put_first(out, at, &bytes, most)
+    let count = MOST_CONTENTS.min(contents.length as usize);
+    put_bytes(out, &contents.bytes[..count]);
 }
 
 // The class, the type and the contents of a packet.
-pub(crate) fn put_packet(
-    out: &mut [u8],
-    at: usize,
-    class: Class,
-    packet_type: u8,
-    contents: Contents,
-) -> usize
-    ensures { (result, out.new) ≡ put_all (at, out.old) (packet_data class packet_type (contents_of contents)) }
+#[tactic(auto, using(lines::proofs::Puts::put_parts))]
+pub(crate) fn put_packet(out: &mut Writer, class: Class, packet_type: u8, contents: Contents)
+    ensures { Puts out.old (packet_data class packet_type (contents_of contents)) out.new }
 {
-    let classed = put(out, at, 0x30 + class.number());
-    let spaced = put(out, classed, 0x20);
-    let typed = put_hex_byte(out, spaced, packet_type);
-    let between = put(out, typed, 0x20);
-    put_contents(out, between, contents)
+    out.put(b'0' + class.number());
+    out.put(b' ');
+    put_hex_byte(out, packet_type);
+    out.put(b' ');
+    put_contents(out, contents);
 }
 
 // The line of a packet that ended in the pair with this number.
 pub(crate) fn put_packet_line(
-    out: &mut [u8],
-    at: usize,
+    out: &mut Writer,
     number: u32,
     class: Class,
     packet_type: u8,
     contents: Contents,
-) -> usize
-    ensures { (result, out.new) ≡ put_all (at, out.old) (line number (packet_words class packet_type (contents_of contents))) }
+)
+    ensures { Puts out.old (line number (packet_words class packet_type (contents_of contents))) out.new }
 {
-    let numbered = put_decimal(out, at, number);
-    let said = put_word(out, numbered, b" packet ");
-    let listed = put_packet(out, said, class, packet_type, contents);
-    put(out, listed, 0x0A)
+    out.put_decimal(number);
+    out.put_word(b" packet ");
+    put_packet(out, class, packet_type, contents);
+    out.put(b'\n');
 }
 
-// What a pair enters into the text: nothing, the end of a packet with its class and type, or a refusal by its number.
-#[derive(Clone, Copy)]
-pub(crate) enum Entry {
-    Nothing,
-    Packet(Class, u8),
-    Refused(u32),
-}
-
-// The line of an entry, if there is one.
-pub(crate) fn put_line_of(
-    out: &mut [u8],
-    at: usize,
-    number: u32,
-    entry: Entry,
-    contents: Contents,
-) -> usize
-    ensures { (result, out.new) ≡ put_all (at, out.old) (line_of number (entry_outcome entry (contents_of contents))) }
+// The line of what a pair gave: of a packet with its contents, or of a refusal. An event has none.
+pub(crate) fn put_line_of(out: &mut Writer, number: u32, answer: Given, contents: Contents)
+    ensures { Puts out.old (line_of number (given_outcome answer (contents_of contents))) out.new }
 {
-    match entry {
-        Entry::Nothing => at,
-        Entry::Packet(class, packet_type) => put_packet_line(
+    match answer {
+        Given::Event(_) | Given::Nothing => {}
+        Given::Packet(class, packet_type) => put_packet_line(
             out,
-            at,
             number,
             class,
             packet_type,
             contents,
         ),
-        Entry::Refused(refusal) => put_refused_line(out, at, number, refusal),
+        Given::InvalidParity => put_refused_line(out, number, 1),
+        Given::NotOpen => put_refused_line(out, number, 13),
+        Given::TooLong => put_refused_line(out, number, 14),
+        Given::WrongSum => put_refused_line(out, number, 15),
     }
 }
 
 // A word, and a number after it.
-pub(crate) fn put_count(out: &mut [u8], at: usize, word: &[u8], number: u32) -> usize
-    ensures { (result, out.new) ≡ put_all (at, out.old) (word.now ++ decimal number) }
+#[tactic(auto, using(lines::proofs::Puts::put_parts))]
+pub(crate) fn put_count(out: &mut Writer, word: &[u8], number: u32)
+    ensures { Puts out.old (word.now ++ decimal number) out.new }
 {
-    let said = put_word(out, at, word);
-    put_decimal(out, said, number)
+    out.put_word(word);
+    out.put_decimal(number);
 }
 
-pub(crate) fn put_last_line(
-    out: &mut [u8],
-    at: usize,
-    pairs: u32,
-    packets: u32,
-    refused: u32,
-) -> usize
-    ensures { (result, out.new) ≡ put_all (at, out.old) (last_line pairs packets refused) }
+pub(crate) fn put_last_line(out: &mut Writer, pairs: u32, packets: u32, refused: u32)
+    ensures { Puts out.old (last_line pairs packets refused) out.new }
 {
-    let read = put_count(out, at, b"pairs ", pairs);
-    let found = put_count(out, read, b" packets ", packets);
-    let counted = put_count(out, found, b" refused ", refused);
-    put(out, counted, 0x0A)
+    put_count(out, b"pairs ", pairs);
+    put_count(out, b" packets ", packets);
+    put_count(out, b" refused ", refused);
+    out.put(b'\n');
 }
 
 // The line of a refusal that ends the stream, and the last line.
 pub(crate) fn put_refused_end(
-    out: &mut [u8],
-    at: usize,
+    out: &mut Writer,
     refusal: u32,
     pairs: u32,
     packets: u32,
     refused: u32,
-) -> usize
-    ensures { (result, out.new) ≡ put_all (at, out.old) (line pairs (refused_words refusal) ++ last_line pairs packets refused) }
+)
+    ensures { Puts out.old (line pairs (refused_words refusal) ++ last_line pairs packets refused) out.new }
 {
-    let said = put_refused_line(out, at, pairs, refusal);
-    put_last_line(out, said, pairs, packets, refused)
+    put_refused_line(out, pairs, refusal);
+    put_last_line(out, pairs, packets, refused);
 }

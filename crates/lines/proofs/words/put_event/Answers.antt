@@ -1,5 +1,4 @@
 -- The one whose word is too long for the search.
-
 use Rattle.lines.proofs.words.put_event.Goals as goal
 
 pub returns-in-EraseNonDisplay : goal.returns-in-EraseNonDisplay

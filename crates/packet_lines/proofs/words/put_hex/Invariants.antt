@@ -1,14 +1,8 @@
--- The digits of all bytes put from the first place on are those of the rest put from the place that it came to.
-use Rattle.std.proofs.Common.{◌≡◌, ◌-◌, ◌≤◌, drop, length}
-use Rattle.lines.specs.Put.{put_all}
+-- The digits of the bytes so far.
+use Rattle.std.proofs.Common.{take}
+use Rattle.lines.specs.Put.{Puts}
 use Rattle.packet_lines.specs.Words.{hex_bytes}
 use Rattle.packet_lines.proofs.words.put_hex.Given as goal
 
-abbrev pub invariant-loop-i : goal.invariant-loop-i
-invariant-loop-i l =
-    (l.i ≤ length l.bytes)
-    × (put_all (l.initial.next, l.initial.out) (hex_bytes l.bytes) ≡ put_all (l.next, l.out) (hex_bytes (drop l.i l.bytes)))
-    × (length l.out ≡ length l.initial.out)
-
-abbrev pub decreases-loop-i : goal.decreases-loop-i
-decreases-loop-i l = length l.bytes - l.i
+abbrev pub invariant-loop-byte : goal.invariant-loop-byte
+invariant-loop-byte l = Puts l.initial.out (hex_bytes (take l.byte-index l.bytes)) l.out

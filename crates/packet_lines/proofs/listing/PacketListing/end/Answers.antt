@@ -1,8 +1,7 @@
 -- By whether the listing stops with so much room.
-use Rattle.std.proofs.Common.{sym, ◌∙◌}
+use Rattle.std.proofs.Common.{refl, rules, sym, ◌∙◌}
 use Rattle.packet_lines.proofs.Reading.{closed_so, no_end, the_end}
 use Rattle.packet_lines.specs.Pieces.{end_words}
-use Rattle.packet_lines.specs.declared.listing.Said.{Said}
 use Rattle.packet_lines.proofs.listing.PacketListing.end.Goals as goal
 
 pub returns-then-stops : goal.returns-then-stops
@@ -11,6 +10,6 @@ returns-then-stops c = no_end c.args.self c.args.output.now (sym c.stops.ensures
 pub returns : goal.returns
 returns c =
     let l = c.args.self in
-    let said : Said = record { written = c.put_end-written.result; listing = c.closed.result } in
-    the_end l c.args.output.now said _ (sym c.stops.ensures ∙ c.if-stops.false)
-    (closed_so l (0, c.args.output.now) (end_words l.half l.pairs) c.count_half-refused.result _ said _ c.count_half-refused.ensures c.put_end-written.ensures c.closed.ensures)
+    the_end l c.args.output.now (sym c.stops.ensures ∙ c.if-stops.false) refl
+    (closed_so l (end_words l.half l.pairs) c.count_half-refused.ensures c.put_end.ensures c.closed.ensures)
+    (search rules)

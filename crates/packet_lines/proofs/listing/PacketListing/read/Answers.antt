@@ -1,29 +1,18 @@
 -- A byte is taken, or the listing stops, or the input is over.
-use Rattle.std.proofs.Common.{get_or, refl, sym, ◌∙◌, arith}
-use Rattle.packet_lines.proofs.Reading.{as_promised, at_the_end, one_taken, stays_inside, stays_long, where_it_stops}
+use Rattle.std.proofs.Common.{refl, rules, sym, ap, ◌∙◌, arith}
+use Rattle.packet_lines.proofs.Reading.{one_more_byte, over_at_the_end, over_where_it_stops}
+use Rattle.packet_lines.specs.Pieces.{stops}
+use Rattle.packet_lines.proofs.listing.PacketListing.read.Goals.{else-loop-byte-test, then-loop-byte-test+then-stops}
 use Rattle.packet_lines.proofs.listing.PacketListing.read.Goals as goal
 
-pub loop-taken-preserved : goal.loop-taken-preserved
-loop-taken-preserved c =
-    let loop = c.loop-taken in
-    let input = c.args.input.now in
-    let goes = sym c.stops.ensures ∙ c.if-stops.false in
-    let says = c.absorb-said.ensures in (
-      one_taken loop.listing (get_or input loop.taken 0) (loop.written, loop.output) c.absorb-said.result _ loop.invariant.3 goes says input loop.taken c.loop-taken-test.true refl
-          ∙ loop.invariant.0,
-      stays_long loop.listing (get_or input loop.taken 0) (loop.written, loop.output) c.absorb-said.result _ loop.invariant.3 goes says ∙ loop.invariant.1,
-      omega (arith, c.loop-taken-test.true),
-      stays_inside loop.listing (get_or input loop.taken 0) (loop.written, loop.output) c.absorb-said.result _ loop.invariant.3 goes says,
-    )
+pub loop-byte-preserved : goal.loop-byte-preserved
+loop-byte-preserved c =
+    one_more_byte c.loop-byte.invariant c.loop-byte-test.true
+    (sym (c.stops.ensures ∙ ap (stops c.loop-byte.listing) c.room.ensures) ∙ c.if-stops.false) c.absorb-listing.ensures
 
-pub returns-after-loop-taken : goal.returns-after-loop-taken
-returns-after-loop-taken c =
-    let loop = c.loop-taken in
-    as_promised c.args.input.now c.args.self c.args.output.now
-    (at_the_end c.args.input.now loop.taken loop.listing (loop.written, loop.output) c.loop-taken-test.false ∙ loop.invariant.0)
-
-pub returns-then-stops : goal.returns-then-stops
-returns-then-stops c =
-    let loop = c.loop-taken in
-    as_promised c.args.input.now c.args.self c.args.output.now
-    (where_it_stops c.args.input.now loop.taken loop.listing (loop.written, loop.output) c.loop-taken-test.true (sym c.stops.ensures ∙ c.if-stops.true) ∙ loop.invariant.0)
+pub returns : goal.returns
+returns c =
+    elim c.loop-byte-test.branch [
+      | else-loop-byte-test w ↦ over_at_the_end c.args.output.now c.loop-byte.invariant refl (search rules) w.loop-byte-test.false
+      | then-loop-byte-test+then-stops w ↦ over_where_it_stops c.args.output.now c.loop-byte.invariant refl (search rules) w.loop-byte-test.true (sym (w.stops.ensures ∙ ap (stops c.loop-byte.listing) w.room.ensures) ∙ w.if-stops.true)
+    ]
