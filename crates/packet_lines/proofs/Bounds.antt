@@ -15,7 +15,7 @@ use Rattle.code.specs.Pair.{pair}
 use Rattle.extended.proofs.RecordRefusals.{few_reported}
 use Rattle.extended.specs.Reports.{reported_bytes}
 use Rattle.extended.specs.Extended.{Report, event, nothing, packet}
-use Rattle.extended.specs.State.{step}
+use Rattle.extended.specs.State.{report_of, step}
 use Rattle.extended.specs.declared.class.Class.{Class}
 use Rattle.lines.proofs.Bounds.{decimal_short}
 use Rattle.lines.specs.Listing.{most_pairs}
@@ -64,7 +64,7 @@ refused_by_short m l =
 half_fits : (l : PacketListing) (h : Option ℕ) (a : ℕ) → length (by_half l h a).text ≤ any_text
 half_fits l None a = omega arith
 half_fits l (Some x) a =
-    omega (arith, line_of_short l.pairs (step l.state (pair x a)).0 (few_reported l.state (pair x a)))
+    omega (arith, line_of_short l.pairs (report_of (step l.state (pair x a)).1) (few_reported l.state (pair x a)))
 
 pub a_byte_fits : (l : PacketListing) (a : ℕ) → length (of_byte l a).text ≤ any_text
 unfolding of_byte

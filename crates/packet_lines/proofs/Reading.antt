@@ -1,6 +1,9 @@
 -- The reading of a piece, one byte at a time. What it comes to from a state, with some taken and written, is the same before
 -- a byte and after it; where no byte is taken, it is what there is.
 -- Assumes nothing.
+use Rattle.std.specs.Prelude.{Option, Result}
+use Rattle.extended.specs.declared.state.ExtendedError.{ExtendedError}
+use Rattle.extended.specs.declared.state.Given.{Given}
 use Prim.Native.Nat.{ℕ, ◌+◌, ◌-◌, ◌≤◌, ◌<◌}
 use lib.ListN.{drop, drop_of_length-le, get_or, length}
 use lib.Seq.{drop-cons}
@@ -9,11 +12,8 @@ use mathlib.Core.List.{List, [], ◌∷◌, ◌++◌}
 use mathlib.Core.Path.{◌≡◌, refl, ap, ap₂, sym, ◌∙◌}
 use native.Mathlib.Numerals.{add-one}
 use native.Mathlib.Omega.{arith}
-use Rattle.extended.specs.State.{Step, contents_of, given_outcome, received_outcome}
+use Rattle.extended.specs.State.{Step, given_outcome, received_outcome, report_of}
 use Rattle.extended.specs.declared.state.ExtendedState.{ExtendedState}
-use Rattle.extended.specs.declared.state.Given.{Given}
-use Rattle.extended.specs.declared.state.Given.TheVariants as given
-use Rattle.extended.specs.declared.state.Received.{Received}
 use Rattle.lines.proofs.Puts.{all_places, put_parts, puts_length, same_bytes, taken_back}
 use Rattle.lines.specs.Put.{Placed, Puts, placed, put_all, room_of}
 use Rattle.lines.specs.declared.put.Writer.{Writer}
@@ -141,21 +141,11 @@ module _ {input : List ℕ} {start l : PacketListing} {first w : Writer} {i take
   over_where_it_stops less stop =
       over_so (where_it_stops input taken l (placed w) (omega (arith, less, so_far.place)) stop)
 
--- a count does not depend on the contents
-same_count : (l : PacketListing) (s : ExtendedState) (g : Given) (bs : List ℕ) → counted l s (given_outcome g []) ≡ counted l s (given_outcome g bs)
-same_count l s (given.Event e) bs = refl
-same_count l s given.Nothing bs = refl
-same_count l s (given.Packet c t) bs = refl
-same_count l s given.InvalidParity bs = refl
-same_count l s given.NotOpen bs = refl
-same_count l s given.TooLong bs = refl
-same_count l s given.WrongSum bs = refl
-
 -- what a whole pair did: its line is put, and it is counted
-pub pair_said : (l : PacketListing) (r : Received) (heard : Step) {w next : Writer} {m : PacketListing} → received_outcome r ≡ heard → Puts w (line_of l.pairs (given_outcome r.answer (contents_of r.contents))) next → m ≡ counted l r.state (given_outcome r.answer []) → Says (of_pair l heard) w m next
+pub pair_said : (l : PacketListing) (r : ExtendedState × Result (Option Given) ExtendedError) (heard : Step) {w next : Writer} {m : PacketListing} → received_outcome r ≡ heard → Puts w (line_of l.pairs (report_of (given_outcome r.1))) next → m ≡ counted l r.0 (report_of (given_outcome r.1)) → Says (of_pair l heard) w m next
 pair_said l r heard told puts now = record {
-  puts = same_bytes (ap (λ (y : Step). line_of l.pairs y.0) told) puts;
-  leaves = now ∙ same_count l r.state r.answer (contents_of r.contents) ∙ ap (λ (y : Step). (of_pair l y).next) told;
+  puts = same_bytes (ap (λ (y : Step). line_of l.pairs (report_of y.1)) told) puts;
+  leaves = now ∙ ap (λ (y : Step). (of_pair l y).next) told;
 }
 
 -- the stream ends with so many refusals

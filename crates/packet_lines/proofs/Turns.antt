@@ -14,7 +14,7 @@ use Rattle.code.specs.Outcome.{Outcome, answer, refused}
 use Rattle.code.specs.Pair.{pair}
 use Rattle.extended.proofs.Refines.{fresh_is_whole, step_refines, step_whole}
 use Rattle.extended.specs.Extended.{Read, Reader, Report, event, nothing, packet}
-use Rattle.extended.specs.State.{reader_of, step}
+use Rattle.extended.specs.State.{reader_of, report_of, step}
 use Rattle.extended.specs.Whole.{Whole}
 use Rattle.lines.proofs.AnyCutting.{drop_more, one_more_lem}
 use Rattle.lines.specs.Cutting.{half_bytes}
@@ -93,12 +93,12 @@ module _ (l : PacketListing) (on : l.ended ≡ false) (o : Open l) where
   pair_says x a more less =
       let r = step l.state (pair x a) in
       let below : leb most_pairs l.pairs ≡ false = lt-leb most_pairs l.pairs less in
-      let found = counts_packet r.0 l.packets (omega (arith, o.counts, less)) in
-      let counted = counts_refusal r.0 l.refused (omega (arith, o.counts, less)) in
+      let found = counts_packet (report_of r.1) l.packets (omega (arith, o.counts, less)) in
+      let counted = counts_refusal (report_of r.1) l.refused (omega (arith, o.counts, less)) in
       rw below
       (ap (λ (x : Read). line_of l.pairs x.0 ++ packets_from x.1 (l.pairs + 1) (l.packets + packets_in x.0) (l.refused + refusals x.0) more) (sym (step_refines l.state (pair x a) o.whole))
-      ∙ ap₂ (λ (n q : ℕ). line_of l.pairs r.0 ++ packets_from (reader_of r.2) (l.pairs + 1) n q more) (sym found) (sym counted)
-      ∙ ap (λ (xs : List ℕ). line_of l.pairs r.0 ++ xs) (sym (open_says (of_pair l r).next more on)))
+      ∙ ap₂ (λ (n q : ℕ). line_of l.pairs (report_of r.1) ++ packets_from (reader_of r.0) (l.pairs + 1) n q more) (sym found) (sym counted)
+      ∙ ap (λ (xs : List ℕ). line_of l.pairs (report_of r.1) ++ xs) (sym (open_says (of_pair l r).next more on)))
 
   half_says : (h : Option ℕ) (a : ℕ) (more : List ℕ) → leb most_pairs l.pairs ≡ false → packets_from (reader_of l.state) l.pairs l.packets l.refused (half_bytes h ++ (a ∷ more)) ≡ SaysOn (by_half l h a) more
   half_says None a more e = sym (open_says (with_half l a) more on)
@@ -119,7 +119,7 @@ module _ (l : PacketListing) (on : l.ended ≡ false) (o : Open l) where
       record {
         pairs = omega (arith, less);
         counts =
-            omega (arith, o.counts, one_at_most r.0, counts_packet r.0 l.packets (omega (arith, o.counts, less)), counts_refusal r.0 l.refused (omega (arith, o.counts, less)));
+            omega (arith, o.counts, one_at_most (report_of r.1), counts_packet (report_of r.1) l.packets (omega (arith, o.counts, less)), counts_refusal (report_of r.1) l.refused (omega (arith, o.counts, less)));
         whole = step_whole l.state (pair x a) o.whole;
       }
 

@@ -5,7 +5,7 @@ use Rattle.std.specs.Prelude.{ℕ, ◌+◌, ◌-◌, leb, ltb, length, Bool, tru
 use Rattle.code.specs.Outcome.{Outcome, answer, refused}
 use Rattle.code.specs.Pair.{pair}
 use Rattle.extended.specs.Extended.{Report, event, nothing, packet}
-use Rattle.extended.specs.State.{Step, fresh_state, step}
+use Rattle.extended.specs.State.{Step, fresh_state, report_of, step}
 use Rattle.extended.specs.declared.state.ExtendedState.{ExtendedState}
 use Rattle.lines.specs.Line.{over}
 use Rattle.lines.specs.Listing.{most_pairs}
@@ -76,7 +76,7 @@ counted l s o = record {
 }
 
 abbrev pub of_pair : PacketListing → Step → Turn
-of_pair l r = record { text = line_of l.pairs r.0; next = counted l r.2 r.0 }
+of_pair l r = record { text = line_of l.pairs (report_of r.1); next = counted l r.0 (report_of r.1) }
 
 abbrev pub by_half : PacketListing → Option ℕ → ℕ → Turn
 by_half l None a = record { text = []; next = with_half l a }

@@ -1,6 +1,6 @@
 // The state of a listing of packets, and what a piece of input does to it.
 ghost use Rattle.std.specs.Prelude.{[], ◌++◌, ◌≡◌, ◌<◌};
-ghost use Rattle.extended.specs.State.{given_outcome, step};
+ghost use Rattle.extended.specs.State.{given_outcome, report_of, step};
 ghost use Rattle.lines.specs.Listing.{most_pairs};
 ghost use Rattle.lines.specs.Put.{Puts};
 ghost use Rattle.packet_lines.specs.Pieces.{Says, closed, count_half, count_packet, count_refusal, counted, end_packets, end_words, fresh_listing, is_done, of_byte, of_pair, read_outcome, read_packets, refused_by, stops};
@@ -8,7 +8,7 @@ ghost use Rattle.packet_lines.specs.Words.{last_line};
 
 use crate::words::{put_last_line, put_line_of, put_refused_end};
 use code::Pair;
-use extended::{ExtendedState, Given};
+use extended::{ExtendedError, ExtendedState, Given};
 use lines::listing::{MOST_PAIRS, one_more};
 use lines::{Progress, Writer};
 
@@ -28,22 +28,22 @@ pub struct PacketListing {
 }
 
 // The packets with that of a pair, if it finished one.
-pub(crate) fn count_packet(packets: u32, answer: Given) -> u32
-    ensures { result ≡ count_packet (given_outcome answer []) packets }
+pub(crate) fn count_packet(packets: u32, answer: Result<Option<Given>, ExtendedError>) -> u32
+    ensures { result ≡ count_packet (report_of (given_outcome answer)) packets }
 {
     match answer {
-        Given::Packet(_, _) => one_more(packets),
+        Ok(Some(Given::Packet(_))) => one_more(packets),
         _ => packets,
     }
 }
 
 // The refusals with that of a pair, if it was refused.
-pub(crate) fn count_refusal(refused: u32, answer: Given) -> u32
-    ensures { result ≡ count_refusal (given_outcome answer []) refused }
+pub(crate) fn count_refusal(refused: u32, answer: Result<Option<Given>, ExtendedError>) -> u32
+    ensures { result ≡ count_refusal (report_of (given_outcome answer)) refused }
 {
     match answer {
-        Given::Event(_) | Given::Nothing | Given::Packet(_, _) => refused,
-        _ => one_more(refused),
+        Ok(_) => refused,
+        Err(_) => one_more(refused),
     }
 }
 
@@ -110,9 +110,13 @@ impl PacketListing {
     }
 
     // After a whole pair that left this state and gave this.
-    pub(crate) fn counted(self, state: ExtendedState, answer: Given) -> PacketListing
+    pub(crate) fn counted(
+        self,
+        state: ExtendedState,
+        answer: Result<Option<Given>, ExtendedError>,
+    ) -> PacketListing
         requires { self.pairs < most_pairs }
-        ensures { result ≡ counted self state (given_outcome answer []) }
+        ensures { result ≡ counted self state (report_of (given_outcome answer)) }
     {
         PacketListing {
             state,
@@ -138,11 +142,8 @@ impl PacketListing {
         requires { self.pairs < most_pairs }
         ensures { Says (of_pair self (step self.state pair)) out.old result out.new }
     {
-        let received = self.state.decode(pair);
-        let next = received.state;
-        let contents = received.contents;
-        let answer = received.answer;
-        put_line_of(out, self.pairs, answer, contents);
+        let (next, answer) = self.state.decode(pair);
+        put_line_of(out, self.pairs, answer);
         self.counted(next, answer)
     }
 

@@ -1,11 +1,11 @@
 // The words of the lines, put by a writer.
 ghost use Rattle.std.specs.Prelude.{◌++◌, ◌≡◌};
-ghost use Rattle.extended.specs.State.{contents_of, given_outcome};
+ghost use Rattle.extended.specs.State.{contents_of, given_outcome, report_of};
 ghost use Rattle.lines.specs.Put.{Puts};
 ghost use Rattle.lines.specs.Words.{decimal, line, refused_words};
 ghost use Rattle.packet_lines.specs.Words.{character, characters, contents_words, hex_byte, hex_bytes, last_line, line_of, packet_data, packet_words};
 
-use extended::{Class, Contents, Given};
+use extended::{Contents, ExtendedError, Given, Packet};
 use lines::put::{Writer, hex_digit};
 use lines::words::put_refused_line;
 
@@ -68,49 +68,41 @@ pub(crate) fn put_contents(out: &mut Writer, contents: Contents)
 
 // The class, the type and the contents of a packet.
 #[tactic(auto, using(lines::proofs::Puts::put_parts))]
-pub(crate) fn put_packet(out: &mut Writer, class: Class, packet_type: u8, contents: Contents)
-    ensures { Puts out.old (packet_data class packet_type (contents_of contents)) out.new }
+pub(crate) fn put_packet(out: &mut Writer, packet: Packet)
+    ensures { Puts out.old (packet_data packet.class packet.packet_type (contents_of packet.contents)) out.new }
 {
-    out.put(b'0' + class.number());
+    out.put(b'0' + packet.class.number());
     out.put(b' ');
-    put_hex_byte(out, packet_type);
+    put_hex_byte(out, packet.packet_type);
     out.put(b' ');
-    put_contents(out, contents);
+    put_contents(out, packet.contents);
 }
 
 // The line of a packet that ended in the pair with this number.
-pub(crate) fn put_packet_line(
-    out: &mut Writer,
-    number: u32,
-    class: Class,
-    packet_type: u8,
-    contents: Contents,
-)
-    ensures { Puts out.old (line number (packet_words class packet_type (contents_of contents))) out.new }
+pub(crate) fn put_packet_line(out: &mut Writer, number: u32, packet: Packet)
+    ensures { Puts out.old (line number (packet_words packet.class packet.packet_type (contents_of packet.contents))) out.new }
 {
     out.put_decimal(number);
     out.put_word(b" packet ");
-    put_packet(out, class, packet_type, contents);
+    put_packet(out, packet);
     out.put(b'\n');
 }
 
-// The line of what a pair gave: of a packet with its contents, or of a refusal. An event has none.
-pub(crate) fn put_line_of(out: &mut Writer, number: u32, answer: Given, contents: Contents)
-    ensures { Puts out.old (line_of number (given_outcome answer (contents_of contents))) out.new }
+// The line of what a pair gave: of a packet, or of a refusal. An event has none.
+pub(crate) fn put_line_of(
+    out: &mut Writer,
+    number: u32,
+    answer: Result<Option<Given>, ExtendedError>,
+)
+    ensures { Puts out.old (line_of number (report_of (given_outcome answer))) out.new }
 {
     match answer {
-        Given::Event(_) | Given::Nothing => {}
-        Given::Packet(class, packet_type) => put_packet_line(
-            out,
-            number,
-            class,
-            packet_type,
-            contents,
-        ),
-        Given::InvalidParity => put_refused_line(out, number, 1),
-        Given::NotOpen => put_refused_line(out, number, 13),
-        Given::TooLong => put_refused_line(out, number, 14),
-        Given::WrongSum => put_refused_line(out, number, 15),
+        Ok(Some(Given::Packet(packet))) => put_packet_line(out, number, packet),
+        Ok(_) => {}
+        Err(ExtendedError::InvalidParity) => put_refused_line(out, number, 1),
+        Err(ExtendedError::NotOpen) => put_refused_line(out, number, 13),
+        Err(ExtendedError::TooLong) => put_refused_line(out, number, 14),
+        Err(ExtendedError::WrongSum) => put_refused_line(out, number, 15),
     }
 }
 
