@@ -13,12 +13,13 @@ use Rattle.code.specs.declared.code.Code.{Code}
 use Rattle.code.specs.declared.code.Code.TheVariants as code
 use Rattle.queue.proofs.Numbered.{nul_may}
 use Rattle.queue.proofs.WellFormed.{formed, formed_by_the_rest, stored_has_room}
-use Rattle.queue.specs.Entry.{entry_for, entry_outcome, if_stored}
+use Rattle.queue.specs.Entry.{entry_for, entry_outcome, if_stored, queueable_refusal}
 use Rattle.queue.specs.Number.{number_of, numbered, with_number}
 use Rattle.queue.specs.Queue.{admit, admit_by, entered, is_full, is_nul}
 use Rattle.queue.specs.Queueable.{queueable}
 use Rattle.queue.specs.Ring.{formed_by, held_fits, held_in, push_outcome, push_refusal, push_ring, stored, stored_as, stored_number, well_formed}
 use Rattle.queue.specs.declared.push.PushError.{PushError}
+use Rattle.queue.specs.declared.queueable.QueueableError.{QueueableError}
 use Rattle.queue.specs.declared.ring.Queue.{Queue}
 
 -- 12 first
@@ -75,9 +76,10 @@ pub nul_entry : (q : Queue) (c : Code) → well_formed q ≡ true → answer Non
 nul_entry q c e verdict = tested_entry q c (answer None) e verdict
 
 -- what may not be queued is refused by the same number
-pub refused_entry : (q : Queue) (c : Code) (k : ℕ) (r : Result (Option ℕ) PushError) → IsErrAnd r (λ e. push_refusal e ≡ k) → well_formed q ≡ true → refused k ≡ numbered c → entry_outcome r ≡ entry_in q c
-refused_entry q c k (Ok n) e is_formed verdict = absurd e
-refused_entry q c k (Err f) e is_formed verdict = ap refused e ∙ tested_entry q c (refused k) is_formed verdict
+pub refused_entry : (q : Queue) (c : Code) (e : QueueableError) (r : Result (Option ℕ) PushError) → IsErrAnd r (λ f. push_refusal f ≡ queueable_refusal e) → well_formed q ≡ true → refused (queueable_refusal e) ≡ numbered c → entry_outcome r ≡ entry_in q c
+refused_entry q c e (Ok n) is is_formed verdict = absurd is
+refused_entry q c e (Err f) is is_formed verdict =
+    ap refused is ∙ tested_entry q c (refused (queueable_refusal e)) is_formed verdict
 
 -- a number is stored only where there is room for it
 pub entry_has_room : (q : Queue) (c : Code) (n : ℕ) → answer (Some n) ≡ entry_in q c → (q.start < 64) × (q.waiting < 64)
@@ -100,8 +102,11 @@ pushed_by_lem o q c e =
     ∙ leaves_as (formed_by q.start q.waiting q.held) (number_of c) (admit c q.waiting) q
     ∙ ap (λ (t : Bool). cond t (entered (admit c q.waiting) (stored q c) q) (refused 12, q)) (sym (formed_by_the_rest q))
 
--- and a refusal is passed on as it is
-pub refused_push : (q : Queue) (c : Code) (e : PushError) (r : Result Unit PushError) → IsErrAnd r (λ x. x ≡ e) → refused (push_refusal e) ≡ entry_in q c → push_outcome (q, r) ≡ push_ring q c
-refused_push q c e (Ok u) is same = absurd is
-refused_push q c e (Err f) is same =
-    ap {B = Outcome Unit × Queue} (λ (x : PushError). (refused (push_refusal x), q)) is ∙ pushed_by_lem (refused (push_refusal e)) q c same
+pub stored_push : (q : Queue) (c : Code) (n : ℕ) → answer (Some n) ≡ entry_in q c → (answer tt, stored_number q n) ≡ push_ring q c
+stored_push q c n e = pushed_by_lem (answer (Some n)) q c e
+
+pub same_push : (q : Queue) (c : Code) → answer None ≡ entry_in q c → (answer tt, q) ≡ push_ring q c
+same_push q c e = pushed_by_lem (answer None) q c e
+
+pub refused_push : (q : Queue) (c : Code) (k : ℕ) → refused k ≡ entry_in q c → (refused k, q) ≡ push_ring q c
+refused_push q c k e = pushed_by_lem (refused k) q c e

@@ -9,11 +9,12 @@ use Prim.Native.Nat.{ℕ, zero, suc, ◌+◌, ◌-◌, ◌≤◌, ◌<◌}
 use native.Mathlib.Omega.{arith}
 use lib.ListN.{length}
 use Rattle.code.specs.Code.{needs_backspace}
-use Rattle.code.specs.Outcome.{Outcome, answer}
+use Rattle.code.specs.Outcome.{Outcome, answer, refused}
 use Rattle.code.specs.Pair.{pair}
 use Rattle.code.specs.declared.code.Code.{Code}
 use Rattle.code.specs.declared.pair.Pair.{Pair}
-use Rattle.queue.proofs.Refines.{popped_as}
+use Rattle.queue.proofs.Refines.{ill_formed_pop, popped_as}
+use Rattle.queue.proofs.WellFormed.{formed}
 use Rattle.queue.proofs.Places.{how_many_lem}
 use Rattle.queue.specs.Number.{code_of}
 use Rattle.queue.specs.Queue.{Pop, byte_of, is_single, pair_of, pop, pop_command, pop_single, pop_two, pop_waiting, queued}
@@ -135,5 +136,10 @@ taken_by_turn q t formed is =
     ap₂ {C = Outcome Pair × Queue} (λ (p : Pair) (r : Queue). (answer p, r)) (ap (λ (x : Turn). x.pair) is ∙ turn_is_the_pop q) (ap (freeing q) is ∙ turn_leaves q)
     ∙ sym (popped_as q formed)
 
-pub frees_waiting : (q : Queue) (t : Turn) → t ≡ turn_in q → t.freed ≤ q.waiting
-frees_waiting q t is = omega (arith, ap (λ (x : Turn). x.freed) is, turn_frees_waiting q)
+pub turn_fits : (q : Queue) (t : Turn) → well_formed q ≡ true → t ≡ turn_in q → q.start + t.freed ≤ 127
+turn_fits q t is_formed is =
+    let f = formed q is_formed in
+    omega (arith, f.start, f.waiting, ap (λ (x : Turn). x.freed) is, turn_frees_waiting q)
+
+pub refused_pop : (q : Queue) → well_formed q ≡ false → (refused 12, q) ≡ pop_ring q
+refused_pop q e = sym (ill_formed_pop q e)

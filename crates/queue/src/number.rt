@@ -92,5 +92,12 @@ pub(crate) fn needs_backspace(number: u16) -> bool
     requires { number < 0x8000 }
     ensures { result ≡ needs_backspace (code_of number) }
 {
-    matches!(number % 0x1000 / 16, 0x0A | 0x12 | 0x13 | 0x1A | 0x1B)
+    match number % 0x1000 / 16 {
+        0x0A => true,
+        0x12 => true,
+        0x13 => true,
+        0x1A => true,
+        0x1B => true,
+        _ => false,
+    }
 }

@@ -95,6 +95,7 @@ impl Queue {
     }
 
     // The next pair for the line; 80 80 where nothing waits.
+    #[tactic(auto, using(crate::proofs::Turns::refused_pop, crate::proofs::Turns::taken_by_turn, crate::proofs::Turns::turn_fits))]
     pub fn pop(self) -> (Queue, Result<Pair, IllFormed>)
         ensures { pop_outcome result ≡ pop_ring self }
     {

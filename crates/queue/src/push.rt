@@ -32,6 +32,7 @@ impl From<QueueableError> for PushError {
 impl Queue {
     // The number that a push of a code stores; none for NUL, which is accepted and not stored. 12 is tested first; NUL
     // passes even where the queue is full; 2, 3 and 18 are tested before 7.
+    #[tactic(auto, using(crate::proofs::Entries::ill_formed_entry, crate::proofs::Entries::nul_entry, crate::proofs::Entries::refused_entry, crate::proofs::Entries::full_entry, crate::proofs::Entries::stored_entry))]
     pub fn entry_for(&self, code: Code) -> Result<Option<u16>, PushError>
         ensures { entry_outcome result ≡ entry_for self.now.start self.now.waiting self.now.held code }
     {
@@ -46,6 +47,7 @@ impl Queue {
 
     // Puts a code after those that wait, wrapping around to place 0. A refusal hands the queue back as it was. The two
     // ways meet before the answer is made: the compiler then copies the ring once.
+    #[tactic(auto, using(crate::proofs::Entries::entry_has_room, crate::proofs::Entries::stored_push, crate::proofs::Entries::same_push, crate::proofs::Entries::refused_push))]
     pub fn push(self, code: Code) -> (Queue, Result<(), PushError>)
         ensures { push_outcome result ≡ push_ring self code }
     {
