@@ -2,7 +2,7 @@
 -- refusals have numbers of their own. So two answers that meet one promise are equal. (Where a promise equates the answer
 -- itself with its definition, that is plain.)
 -- Assumes nothing.
-use mathlib.Core.Path.{◌≡◌, refl, ap, sym, ◌∙◌}
+use mathlib.Core.Path.{◌≡◌, refl, ap, ap₂, sym, ◌∙◌}
 use Prim.Native.Nat.{ℕ}
 use native.Mathlib.Omega.{arith}
 use Rattle.std.specs.Prelude.{Result, Ok, Err}
@@ -37,6 +37,11 @@ outcome_injective refusal apart (Ok x) (Ok y) e = ap Ok (same e)
 outcome_injective refusal apart (Ok x) (Err f) e = absurd (clash e)
 outcome_injective refusal apart (Err d) (Ok y) e = absurd (clash (sym e))
 outcome_injective refusal apart (Err d) (Err f) e = ap Err (apart d f (same_refusal e))
+
+-- and so does an outcome with a state beside it
+pub beside_injective : {S A B : Type 0} (told : A → B) → Injective told → Injective {B = B × S} (λ (r : S × A). (told r.1, r.0))
+beside_injective {S} {A} {B} told apart r s e =
+    ap₂ {C = S × A} (λ (a : A) (x : S). (x, a)) (apart r.1 s.1 (ap (λ (w : B × S). w.0) e)) (ap (λ (w : B × S). w.1) e)
 
 write_refusals_apart : Injective write_refusal
 write_refusals_apart UnknownByte UnknownByte e = refl

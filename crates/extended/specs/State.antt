@@ -2,7 +2,7 @@
 -- is said in `Extended`, and here which record that leaves.
 use Rattle.std.specs.Prelude.{ℕ, ◌+◌, ◌-◌, min, eqb, leb, get_or, length, replicate, set, take, Bool, cond, false, List, [], ◌∷◌}
 use Rattle.std.specs.Prelude.{Option, None, Some, Result, Ok, Err}
-use Rattle.code.specs.Outcome.{Outcome, answer, refused}
+use Rattle.code.specs.Outcome.{Outcome, answer, outcome, refused}
 use Rattle.code.specs.Parity.{stripped}
 use Rattle.code.specs.Read.{is_odd_pair}
 use Rattle.code.specs.declared.pair.Pair.{Pair}
@@ -167,12 +167,14 @@ step s p =
     (s, refused 1)
 
 -- what the code answers
+abbrev pub extended_refusal : ExtendedError → ℕ
+extended_refusal error.InvalidParity = 1
+extended_refusal error.NotOpen = 13
+extended_refusal error.TooLong = 14
+extended_refusal error.WrongSum = 15
+
 abbrev pub given_outcome : Result (Option Given) ExtendedError → Outcome (Option Given)
-given_outcome (Ok g) = answer g
-given_outcome (Err error.InvalidParity) = refused 1
-given_outcome (Err error.NotOpen) = refused 13
-given_outcome (Err error.TooLong) = refused 14
-given_outcome (Err error.WrongSum) = refused 15
+given_outcome r = outcome extended_refusal r
 
 abbrev pub received_outcome : ExtendedState × Result (Option Given) ExtendedError → Step
 received_outcome r = (r.0, given_outcome r.1)

@@ -2,7 +2,7 @@
 -- may be queued, and the number that a push stores; NUL has none, and none is stored; or the refusal.
 use Rattle.std.specs.Prelude.{ℕ, Bool, true, false, cond}
 use Rattle.std.specs.Prelude.{Option, None, Some, Result, Ok, Err}
-use Rattle.code.specs.Outcome.{Outcome, answer, refused}
+use Rattle.code.specs.Outcome.{Outcome, answer, outcome, refused}
 use Rattle.code.specs.declared.code.Code.{Code}
 use Rattle.queue.specs.Number.{number_of}
 use Rattle.queue.specs.Queue.{admit}
@@ -22,12 +22,10 @@ number_outcome (Ok n) = answer (Some n)
 number_outcome (Err e) = refused (queueable_refusal e)
 
 abbrev pub verdict_outcome : Result (Option ℕ) QueueableError → Outcome (Option ℕ)
-verdict_outcome (Ok n) = answer n
-verdict_outcome (Err e) = refused (queueable_refusal e)
+verdict_outcome r = outcome queueable_refusal r
 
 abbrev pub entry_outcome : Result (Option ℕ) PushError → Outcome (Option ℕ)
-entry_outcome (Ok n) = answer n
-entry_outcome (Err e) = refused (push_refusal e)
+entry_outcome r = outcome push_refusal r
 
 -- the number of a code, where it is stored
 abbrev pub if_stored : Option ℕ → Outcome Bool → Outcome (Option ℕ)

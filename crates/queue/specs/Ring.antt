@@ -2,7 +2,7 @@
 -- leaves. The answers are the list's, from `Queue`; where the codes lie is in the port's own words.
 use Rattle.std.specs.Prelude.{ℕ, zero, suc, ◌+◌, ◌-◌, ◌%◌, Bool, true, cond, ◌&&◌, List, [], ◌∷◌, leb, ltb, get_or, length, replicate, set}
 use Rattle.std.specs.Prelude.{Option, None, Some, Result, Ok, Err}
-use Rattle.code.specs.Outcome.{Outcome, answer, refused}
+use Rattle.code.specs.Outcome.{Outcome, answer, outcome, refused}
 use Rattle.code.specs.declared.code.Code.{Code}
 use Rattle.code.specs.declared.pair.Pair.{Pair}
 use Rattle.queue.specs.Number.{code_of, number_of}
@@ -111,22 +111,19 @@ push_refusal push_error.Full = 7
 push_refusal push_error.IllFormed = 12
 
 abbrev pub push_answer_outcome : Result Unit PushError → Outcome Unit
-push_answer_outcome (Ok u) = answer u
-push_answer_outcome (Err e) = refused (push_refusal e)
+push_answer_outcome r = outcome push_refusal r
 
 abbrev pub push_outcome : Queue × Result Unit PushError → Outcome Unit × Queue
 push_outcome r = (push_answer_outcome r.1, r.0)
 
 abbrev pub pop_answer_outcome : Result Pair IllFormed → Outcome Pair
-pop_answer_outcome (Ok p) = answer p
-pop_answer_outcome (Err e) = refused 12
+pop_answer_outcome r = outcome (λ e. 12) r
 
 abbrev pub pop_outcome : Queue × Result Pair IllFormed → Outcome Pair × Queue
 pop_outcome r = (pop_answer_outcome r.1, r.0)
 
 abbrev pub count_answer_outcome : Result ℕ IllFormed → Outcome ℕ
-count_answer_outcome (Ok n) = answer n
-count_answer_outcome (Err e) = refused 12
+count_answer_outcome r = outcome (λ e. 12) r
 
 abbrev pub count_outcome : Queue × Result ℕ IllFormed → Outcome ℕ × Queue
 count_outcome r = (count_answer_outcome r.1, r.0)

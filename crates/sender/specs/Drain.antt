@@ -2,7 +2,7 @@
 -- idle, out of room or at its limit of pairs. 12, then 11: the start lies past the end.
 use Rattle.std.specs.Prelude.{ℕ, zero, suc, cond, List, [], ◌∷◌, ◌++◌, ltb, drop, length, take}
 use Rattle.std.specs.Prelude.{Result, Ok, Err}
-use Rattle.code.specs.Outcome.{Outcome, answer, refused}
+use Rattle.code.specs.Outcome.{Outcome, answer, outcome, refused}
 use Rattle.code.specs.Pair.{pair}
 use Rattle.code.specs.declared.pair.Pair.{Pair}
 use Rattle.sender.specs.Sender.{send_sender, view, well_formed}
@@ -53,8 +53,7 @@ drain_refusal drain_error.StartPastEnd = 11
 drain_refusal drain_error.IllFormed = 12
 
 abbrev pub drain_answer_outcome : Result ℕ DrainError → Outcome ℕ
-drain_answer_outcome (Ok n) = answer n
-drain_answer_outcome (Err e) = refused (drain_refusal e)
+drain_answer_outcome r = outcome drain_refusal r
 
 abbrev pub drain_outcome : Sender × Result ℕ DrainError → List ℕ → Outcome ℕ × Sender × List ℕ
 drain_outcome r out = (drain_answer_outcome r.1, r.0, out)

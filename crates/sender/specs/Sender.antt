@@ -2,7 +2,7 @@
 -- call leaves. The answers are the lists', from `Sending`.
 use Rattle.std.specs.Prelude.{ℕ, Bool, true, false, cond, ◌&&◌}
 use Rattle.std.specs.Prelude.{Option, None, Some, Result, Ok, Err}
-use Rattle.code.specs.Outcome.{Outcome, answer, refused}
+use Rattle.code.specs.Outcome.{Outcome, answer, outcome, refused}
 use Rattle.code.specs.Read.{is_command_pair, is_odd_pair}
 use Rattle.code.specs.declared.code.Code.{Code}
 use Rattle.code.specs.declared.pair.Pair.{Pair}
@@ -75,8 +75,7 @@ abbrev pub count_outcome : Sender × Result ℕ IllFormed → Outcome ℕ × Sen
 count_outcome r = (count_answer_outcome r.1, r.0)
 
 abbrev pub idle_answer_outcome : Result Bool IllFormed → Outcome Bool
-idle_answer_outcome (Ok t) = answer t
-idle_answer_outcome (Err e) = refused 12
+idle_answer_outcome r = outcome (λ e. 12) r
 
 abbrev pub idle_outcome : Sender × Result Bool IllFormed → Outcome Bool × Sender
 idle_outcome r = (idle_answer_outcome r.1, r.0)
