@@ -9,7 +9,7 @@ use lib.ListN.{length, take}
 use Rattle.std.proofs.lemmas.List.{take_min}
 use Rattle.lines.proofs.Puts.{same_bytes}
 use Rattle.lines.proofs.Waiting.{empty_where_no_more, how_many_lem}
-use Rattle.lines.specs.Line.{Flushes, empty_line, pending, unwritten, waiting, writes}
+use Rattle.lines.specs.Line.{Flushes, empty_line, pending, waiting, writes}
 use Rattle.lines.specs.Put.{Puts, room_of}
 use Rattle.lines.specs.declared.line.Line.{Line}
 use Rattle.lines.specs.declared.put.Writer.{Writer}

@@ -6,7 +6,7 @@ use mathlib.Core.Path.{◌≡◌, refl, ap, ap₂, sym, ◌∙◌}
 use Prim.Native.Nat.{ℕ, zero, suc, ◌+◌, ◌-◌, ◌≤◌, ◌<◌, min}
 use native.Mathlib.Numerals.{add-one}
 use native.Mathlib.Omega.{arith}
-use borrow.Author.Tests.{le-ltb, leb-false, leb-true, lt-ltb, ltb-false, ltb-true}
+use borrow.Author.Tests.{le-ltb, leb-false, leb-true, lt-ltb, ltb-true}
 use lib.Dec.{leb, ltb}
 use lib.ListN.{drop, get_or, length, length-take, take}
 use lib.Seq.{drop-cons}
@@ -18,57 +18,9 @@ use Rattle.lines.specs.declared.line.Line.{Line}
 abbrev last_place : ℕ → ℕ
 last_place len = cond (leb line_length len) line_length len
 
-last_place_by : (len : ℕ) (t : Bool) → leb line_length len ≡ t → (cond t line_length len ≤ line_length) × (cond t line_length len ≤ len) × ((n : ℕ) → n < line_length → n < len → n < cond t line_length len)
-last_place_by len true e = (omega arith, omega (arith, leb-true line_length len e), λ n small less. omega arith)
-last_place_by len false e = (omega (arith, leb-false line_length len e), omega arith, λ n small less. omega arith)
-
-last_place_lem : (len : ℕ) → (last_place len ≤ line_length) × (last_place len ≤ len) × ((n : ℕ) → n < line_length → n < len → n < last_place len)
-last_place_lem len = last_place_by len (leb line_length len) refl
-
--- no more bytes wait than there are before either
-pub past_the_memory : (l : Line) (count : ℕ) → line_length ≤ l.at + count → waiting l ≤ count
-past_the_memory l count h = omega (arith, (last_place_lem l.len).0)
-
-pub past_the_length : (l : Line) (count : ℕ) → l.len ≤ l.at + count → waiting l ≤ count
-past_the_length l count h = omega (arith, (last_place_lem l.len).1)
-
-pub none_past_the_memory : (l : Line) → line_length ≤ l.at → has_more l ≡ false
-none_past_the_memory l h = le-ltb 0 (waiting l) (past_the_memory l 0 (omega arith))
-
-pub more_before_both : (l : Line) (count : ℕ) → l.at + count < line_length → l.at + count < l.len → count < waiting l
-more_before_both l count small less =
-    omega (arith, (last_place_lem l.len).2 (l.at + count) small less)
-
--- two comparisons that agree
-same_test : (a b c d : ℕ) → (a < b → c < d) → (b ≤ a → d ≤ c) → ltb a b ≡ ltb c d
-same_test a b c d if_less if_not = same_by (ltb a b) refl
-  where
-    same_by : (t : Bool) → ltb a b ≡ t → ltb a b ≡ ltb c d
-    same_by true e = e ∙ sym (lt-ltb c d (if_less (ltb-true a b e)))
-    same_by false e = e ∙ sym (le-ltb c d (if_not (ltb-false a b e)))
-
-pub more_by_length : (l : Line) → l.at < line_length → ltb l.at l.len ≡ has_more l
-more_by_length l small =
-    let last = last_place_lem l.len in
-    same_test l.at l.len 0 (waiting l)
-    (λ less. omega (arith, last.2 l.at small less))
-    (λ more. omega (arith, last.1))
-
 -- as many bytes as wait, and each is the line's at its place
 pub how_many_lem : (l : Line) → length (pending l) ≡ waiting l
 how_many_lem l = from_length l.bytes l.at (waiting l)
-
-byte_from : (bytes : List ℕ) (at n i : ℕ) → i < n → get_or (bytes_from bytes at n) i 0 ≡ get_or bytes (at + i) 0
-byte_from bytes at zero i h = absurd (omega arith)
-byte_from bytes at (suc n) zero h =
-    let here : at ≡ at + 0 = omega arith in
-    ap (λ (k : ℕ). get_or bytes k 0) here
-byte_from bytes at (suc n) (suc i) h =
-    let on : at + 1 + i ≡ at + suc i = omega arith in
-    byte_from bytes (at + 1) n i (omega arith) ∙ ap (λ (k : ℕ). get_or bytes k 0) on
-
-pub byte_at : (l : Line) (i : ℕ) → i < waiting l → get_or (pending l) i 0 ≡ get_or l.bytes (l.at + i) 0
-byte_at l i h = byte_from l.bytes l.at (waiting l) i h
 
 -- a flush writes no more than there is room for, and leaves something where more waits than that
 pub fits : (l : Line) (room : ℕ) → length (writes l room) ≤ room

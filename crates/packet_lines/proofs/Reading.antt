@@ -141,13 +141,6 @@ module _ {input : List ℕ} {start l : PacketListing} {first w : Writer} {i take
   over_where_it_stops less stop =
       over_so (where_it_stops input taken l (placed w) (omega (arith, less, so_far.place)) stop)
 
--- what a whole pair did: its line is put, and it is counted
-pub pair_said : (l : PacketListing) (r : ExtendedState × Result (Option Given) ExtendedError) (heard : Step) {w next : Writer} {m : PacketListing} → received_outcome r ≡ heard → Puts w (line_of l.pairs (report_of (given_outcome r.1))) next → m ≡ counted l r.0 (report_of (given_outcome r.1)) → Says (of_pair l heard) w m next
-pair_said l r heard told puts now = record {
-  puts = same_bytes (ap (λ (y : Step). line_of l.pairs (report_of y.1)) told) puts;
-  leaves = now ∙ ap (λ (y : Step). (of_pair l y).next) told;
-}
-
 -- the stream ends with so many refusals
 pub closed_so : (l : PacketListing) (words : List ℕ) {n q : ℕ} {w next : Writer} {m : PacketListing} → n ≡ q → Puts w (words ++ last_line l.pairs l.packets n) next → m ≡ closed l n → Says (ending l words q) w m next
 closed_so l words count puts now = record {

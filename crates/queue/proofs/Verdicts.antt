@@ -7,7 +7,7 @@ use mathlib.Core.Path.{◌≡◌, refl, ap, sym, ◌∙◌}
 use Prim.Native.Nat.{ℕ, ◌+◌, ◌/◌, ◌≤◌, ◌<◌}
 use native.Mathlib.Omega.{arith}
 use borrow.Author.Tests.{eq-eqb, le-ltb, lt-ltb, ne_eqb}
-use lib.Dec.{leb}
+use lib.Dec.{leb, ltb}
 use Rattle.code.proofs.Meaning.{in_row_one}
 use Rattle.code.proofs.OneAnswer.{clash, same}
 use Rattle.code.specs.Letter.{letter_place}
@@ -15,6 +15,7 @@ use Rattle.code.specs.Outcome.{Outcome, answer, refused}
 use Rattle.code.specs.Read.{is_command}
 use Rattle.code.specs.Pair.{pair}
 use Rattle.code.specs.Write.{control_bytes, of_seven_bits, preamble_bytes, row_bytes}
+use Rattle.code.specs.declared.code.Code.{Code}
 use Rattle.code.specs.declared.code.Code.TheVariants as code
 use Rattle.code.specs.declared.control.Control.{Control}
 use Rattle.code.specs.declared.control.Control.TheVariants as control
@@ -83,33 +84,40 @@ whose_at_most c = omega (arith, field_at_most c.field, channel_at_most c.channel
     channel_at_most true = omega arith
     channel_at_most false = omega arith
 
--- a command, by its control
-pub by_control : (c : ControlCode) (w : ℕ) (o : Outcome (Option ℕ)) → w ≡ whose_number c → o ≡ numbered_control w c.control → o ≡ numbered (code.Control c)
-by_control c w o whose e =
-    e
-    ∙ ap (λ (n : ℕ). numbered_control n c.control) whose
-    ∙ ap (with_number (number_of (code.Control c))) (control_may (plain c.control) ∙ sym (control_may c))
-
--- the number of a control is the control code's own
-pub as_numbered : (r : Result ℕ QueueableError) (m : Result (Option ℕ) QueueableError) → MatchResult r (λ x. IsOkAnd m (λ y. y ≡ Some x)) (λ e. m ≡ Err e) → verdict_outcome m ≡ number_outcome r
+-- a command, by its control, whose number is its own
+as_numbered : (r : Result ℕ QueueableError) (m : Result (Option ℕ) QueueableError) → MatchResult r (λ x. IsOkAnd m (λ y. y ≡ Some x)) (λ e. m ≡ Err e) → verdict_outcome m ≡ number_outcome r
 as_numbered (Ok n) (Ok m) e = ap answer e
 as_numbered (Ok n) (Err f) e = absurd e
 as_numbered (Err f) m e = ap verdict_outcome e
+
+pub command_numbered : (x : Code) (c : ControlCode) (w : ℕ) (r : Result ℕ QueueableError) (m : Result (Option ℕ) QueueableError) → x ≡ code.Control c → w ≡ whose_number c → number_outcome r ≡ numbered_control w c.control → MatchResult r (λ n. IsOkAnd m (λ y. y ≡ Some n)) (λ e. m ≡ Err e) → verdict_outcome m ≡ numbered x
+command_numbered x c w r m is whose e mapped =
+    as_numbered r m mapped
+    ∙ e
+    ∙ ap (λ (n : ℕ). numbered_control n c.control) whose
+    ∙ ap (with_number (number_of (code.Control c))) (control_may (plain c.control) ∙ sym (control_may c))
+    ∙ ap numbered (sym is)
 
 -- and a single code
 pub nul_passes : answer None ≡ numbered code.Nul
 nul_passes = sym (ap (with_number None) nul_may)
 
-pub letter_passes : (l : Letter) (n : ℕ) → n ≡ letter_place l → answer (Some (0x8020 + n)) ≡ numbered (code.Letter l)
-letter_passes l n e =
-    ap (λ (k : ℕ). answer (Some (0x8020 + k))) e ∙ sym (ap (with_number (number_of (code.Letter l))) (letter_may l))
+pub letter_passes : (x : Code) (l : Letter) (n : ℕ) → x ≡ code.Letter l → n ≡ letter_place l → answer (Some (0x8020 + n)) ≡ numbered x
+letter_passes x l n is e =
+    ap (λ (k : ℕ). answer (Some (0x8020 + k))) e
+    ∙ sym (ap (with_number (number_of (code.Letter l))) (letter_may l))
+    ∙ ap numbered (sym is)
 
-pub byte_passes : (b : ℕ) → b < 128 → answer (Some (0x8080 + b)) ≡ numbered (code.Unknown b)
-byte_passes b less =
-    sym (ap (λ (t : Bool). with_number (Some (0x8080 + b)) (unless_dressed false (of_seven_bits t tt))) (lt-ltb b 0x80 less))
+byte_by : (b : ℕ) (t : Bool) → ltb b 0x80 ≡ t → cond t (answer (Some (0x8080 + b))) (refused 2) ≡ numbered (code.Unknown b)
+byte_by b true e =
+    sym (ap (λ (t : Bool). with_number (Some (0x8080 + b)) (unless_dressed false (of_seven_bits t tt))) e)
+    ∙ sym (ap (with_number (Some (0x8080 + b))) (unknown_may b))
+byte_by b false e =
+    sym (ap (λ (t : Bool). with_number (Some (0x8080 + b)) (unless_dressed false (of_seven_bits t tt))) e)
     ∙ sym (ap (with_number (Some (0x8080 + b))) (unknown_may b))
 
-pub byte_refused : (b : ℕ) → 128 ≤ b → refused 2 ≡ numbered (code.Unknown b)
-byte_refused b more =
-    sym (ap (λ (t : Bool). with_number (Some (0x8080 + b)) (unless_dressed false (of_seven_bits t tt))) (le-ltb b 0x80 more))
-    ∙ sym (ap (with_number (Some (0x8080 + b))) (unknown_may b))
+pub byte_passes : (x : Code) (b : ℕ) → x ≡ code.Unknown b → b < 128 → answer (Some (0x8080 + b)) ≡ numbered x
+byte_passes x b is less = byte_by b true (lt-ltb b 0x80 less) ∙ ap numbered (sym is)
+
+pub byte_refused : (x : Code) (b : ℕ) → x ≡ code.Unknown b → 128 ≤ b → refused 2 ≡ numbered x
+byte_refused x b is more = byte_by b false (le-ltb b 0x80 more) ∙ ap numbered (sym is)

@@ -78,7 +78,7 @@ fn number_control(whose: u16, control: Control) -> Result<u16, QueueableError>
 }
 
 // The number of a code that may be queued; none for NUL, which is not stored.
-#[tactic(auto, using(crate::proofs::Verdicts::by_control, crate::proofs::Verdicts::nul_passes, crate::proofs::Verdicts::letter_passes, crate::proofs::Verdicts::byte_passes, crate::proofs::Verdicts::byte_refused))]
+#[tactic(auto, using(crate::proofs::Verdicts::nul_passes, crate::proofs::Verdicts::letter_passes, crate::proofs::Verdicts::byte_passes))]
 pub(crate) fn numbered(code: Code) -> Result<Option<u16>, QueueableError>
     ensures { verdict_outcome result ≡ numbered code }
 {
@@ -86,7 +86,12 @@ pub(crate) fn numbered(code: Code) -> Result<Option<u16>, QueueableError>
         Code::Nul => Ok(None),
         Code::Control(command) => number_control(whose_number(command), command.control).map(Some),
         Code::Letter(letter) => Ok(Some(0x8020 + letter.place() as u16)),
-        Code::Unknown(byte) if byte < 0x80 => Ok(Some(0x8080 + byte as u16)),
-        Code::Unknown(_) => Err(QueueableError::UnknownByte),
+        Code::Unknown(byte) => {
+            if byte < 0x80 {
+                Ok(Some(0x8080 + byte as u16))
+            } else {
+                Err(QueueableError::UnknownByte)
+            }
+        }
     }
 }

@@ -3,18 +3,20 @@
 -- odd parity.
 -- Assumes nothing.
 use mathlib.Core.Bool.{Bool, true, false, ◌&&◌}
-use Rattle.std.specs.Prelude.{Option, None, Some}
+use Rattle.std.specs.Prelude.{Option, None, Some, Result}
 use mathlib.Core.Path.{◌≡◌, refl, ap, sym, ◌∙◌}
 use Prim.Native.Nat.{ℕ}
 use Rattle.code.proofs.Both.{both_fail, both_left, both_right}
-use Rattle.code.specs.Outcome.{Outcome}
+use Rattle.code.specs.Outcome.{Outcome, refused}
 use Rattle.code.specs.Read.{is_command_pair, is_odd_pair}
 use Rattle.code.specs.declared.code.Code.{Code}
 use Rattle.code.specs.declared.pair.Pair.{Pair}
 use Rattle.queue.proofs.Refines as ring
-use Rattle.queue.specs.Ring.{count_ring, push_ring}
+use Rattle.queue.specs.Ring.{count_answer_outcome, count_outcome, count_ring, push_answer_outcome, push_outcome, push_ring}
 use Rattle.queue.specs.Ring as queue
+use Rattle.queue.specs.declared.push.PushError.{PushError}
 use Rattle.queue.specs.declared.ring.Queue.{Queue}
+use Rattle.queue.specs.declared.well_formed.IllFormed.{IllFormed}
 use Rattle.sender.proofs.Refines.{ill_formed_count, ill_formed_push, pushed_as, repeats_formed, well_formed_lem}
 use Rattle.sender.specs.Sender.{count_sender, owed_fits, push_sender, repeats_fit, sender, well_formed}
 use Rattle.sender.specs.declared.sender.Sender.{Sender}
@@ -47,8 +49,8 @@ push_by s c false e fits =
 push_is_the_queue's : (s : Sender) (c : Code) → repeats_fit s.repeats ≡ true → ((push_ring s.queue c).0, sender (push_ring s.queue c).1 s.repeats) ≡ push_sender s c
 push_is_the_queue's s c fits = push_by s c (queue.well_formed s.queue) refl fits
 
-pub by_queue : (s : Sender) (c : Code) (o : Outcome Unit) (q : Queue) → repeats_fit s.repeats ≡ true → (o, q) ≡ push_ring s.queue c → (o, sender q s.repeats) ≡ push_sender s c
-by_queue s c o q fits done = ap (pushed_by s) done ∙ push_is_the_queue's s c fits
+pub pushed_by_queue : (s : Sender) (c : Code) (r : Queue × Result Unit PushError) → repeats_fit s.repeats ≡ true → push_outcome r ≡ push_ring s.queue c → (push_answer_outcome r.1, sender r.0 s.repeats) ≡ push_sender s c
+pushed_by_queue s c r fits done = ap (pushed_by s) done ∙ push_is_the_queue's s c fits
 
 abbrev counted_by : Sender → Outcome ℕ × Queue → Outcome ℕ × Sender
 counted_by s r = (r.0, s)
@@ -60,3 +62,13 @@ count_by s false e fits = ap (counted_by s) (ring.ill_formed_count s.queue e) �
 
 pub count_is_the_queue's : (s : Sender) → repeats_fit s.repeats ≡ true → ((count_ring s.queue).0, s) ≡ count_sender s
 count_is_the_queue's s fits = count_by s (queue.well_formed s.queue) refl fits
+
+pub counted_by_queue : (s : Sender) (r : Queue × Result ℕ IllFormed) → repeats_fit s.repeats ≡ true → count_outcome r ≡ count_ring s.queue → (count_answer_outcome r.1, s) ≡ count_sender s
+counted_by_queue s r fits counted = ap (counted_by s) counted ∙ count_is_the_queue's s fits
+
+-- where it does not fit, both are refused
+pub refused_push : (s : Sender) (c : Code) → repeats_fit s.repeats ≡ false → (refused 12, s) ≡ push_sender s c
+refused_push s c e = sym (ill_formed_push s c (repeats_fail s e))
+
+pub refused_count : (s : Sender) → repeats_fit s.repeats ≡ false → (refused 12, s) ≡ count_sender s
+refused_count s e = sym (ill_formed_count s (repeats_fail s e))

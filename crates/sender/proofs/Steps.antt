@@ -1,11 +1,11 @@
 -- A send by the parts of a state is the definition's: the owed pair, with the queue as it was, or the queue's turn, its pair
 -- owed again where it is a command.
 -- Assumes nothing.
-use mathlib.Core.Bool.{true}
+use mathlib.Core.Bool.{true, false}
 use mathlib.Core.Path.{◌≡◌, refl, ap, ap₂, sym, ◌∙◌}
 use Prim.Native.Nat.{ℕ, ◌+◌, ◌-◌, ◌%◌, ◌≤◌, ◌<◌}
 use native.Mathlib.Omega.{arith}
-use Rattle.code.specs.Outcome.{Outcome, answer}
+use Rattle.code.specs.Outcome.{Outcome, answer, refused}
 use Rattle.code.specs.declared.pair.Pair.{Pair}
 use Rattle.queue.proofs.Refines as ring
 use Rattle.queue.proofs.Turns.{turn_frees_waiting, turn_is_the_pop, turn_leaves}
@@ -14,7 +14,7 @@ use Rattle.queue.specs.Ring.{pop_ring}
 use Rattle.queue.specs.Ring as queue
 use Rattle.queue.specs.Turn.{freeing, turn_in}
 use Rattle.queue.specs.declared.ring.Queue.{Queue}
-use Rattle.sender.proofs.Refines.{queue_formed, sent_as}
+use Rattle.sender.proofs.Refines.{ill_formed_send, queue_formed, sent_as}
 use Rattle.sender.specs.ByParts.{moved, step_by, step_in}
 use Rattle.sender.specs.Sender.{queue_after, send_sender, sender, view, well_formed}
 use Rattle.sender.specs.Sending.{Source, ahead, no_repeat, pops, repeats_after, send, send_from, source}
@@ -57,3 +57,17 @@ freed_by s pops = turn_frees_waiting s.queue
 
 pub step_frees_waiting : (s : Sender) → (step_in s).freed ≤ s.queue.waiting
 step_frees_waiting s = freed_by s (source (view s))
+
+-- a send as the code makes it
+pub refused_send : (s : Sender) → well_formed s ≡ false → (refused 12, s) ≡ send_sender s
+refused_send s e = sym (ill_formed_send s e)
+
+pub step_fits : (s : Sender) (t : Step) → well_formed s ≡ true → t ≡ step_in s → (s.queue.start < 64) × (s.queue.waiting ≤ 64) × (t.freed ≤ s.queue.waiting)
+step_fits s t e is =
+    let f = formed s.queue (queue_formed s e) in
+    (f.start, f.waiting, omega (arith, ap (λ (x : Step). x.freed) is, step_frees_waiting s))
+
+pub sent_by_step : (s : Sender) (t : Step) (next : Sender) → well_formed s ≡ true → t ≡ step_in s → next ≡ moved s t → (answer t.pair, next) ≡ send_sender s
+sent_by_step s t next e is left =
+    ap₂ {C = Outcome Pair × Sender} (λ (p : Pair) (r : Sender). (answer p, r)) (ap (λ (x : Step). x.pair) is) (left ∙ ap (moved s) is)
+    ∙ step_is_the_send s e

@@ -7,6 +7,7 @@ use queue::IllFormed;
 
 impl Sender {
     // The codes that wait, and the held one. A pair that is owed is no code.
+    #[tactic(auto, using(crate::proofs::RepeatsFit::refused_count, crate::proofs::RepeatsFit::counted_by_queue))]
     pub fn n_codes(self) -> (Sender, Result<usize, IllFormed>)
         ensures { count_outcome result ≡ count_sender self }
     {

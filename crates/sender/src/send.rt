@@ -66,6 +66,7 @@ impl Sender {
     }
 
     // The next pair for the line; 80 80 where nothing is left to send.
+    #[tactic(auto, using(crate::proofs::Steps::refused_send, crate::proofs::Steps::sent_by_step, crate::proofs::Steps::step_fits))]
     pub fn send(self) -> (Sender, Result<Pair, IllFormed>)
         ensures { send_outcome result ≡ send_sender self }
     {

@@ -1,6 +1,6 @@
 -- There is a pair to list; what the reading comes to from here is what it came to at the start (`WholePairs`); and where nothing
 -- was taken yet, nothing changed. The measure is what is left of the input.
-use Rattle.std.proofs.Common.{◌≡◌, ◌-◌, ◌≤◌, length}
+use Rattle.std.proofs.Common.{◌-◌, length}
 use Rattle.lines.proofs.WholePairs.{Midst}
 use Rattle.lines.proofs.listing.Listing.list_pairs.Given as goal
 

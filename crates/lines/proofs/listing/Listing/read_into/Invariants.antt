@@ -1,6 +1,6 @@
 -- What the reading comes to from here is what it came to at the start (`Reading`), with the places inside the input and the
 -- output. The measure is what is left of the input.
-use Rattle.std.proofs.Common.{◌≡◌, ◌-◌, ◌≤◌, length}
+use Rattle.std.proofs.Common.{◌-◌, length}
 use Rattle.lines.proofs.Reading.{Reached}
 use Rattle.lines.proofs.listing.Listing.read_into.Given as goal
 

@@ -1,5 +1,5 @@
 -- A byte is taken, or the listing stops, or the input is over.
-use Rattle.std.proofs.Common.{refl, rules, sym, ap, ◌∙◌, arith}
+use Rattle.std.proofs.Common.{refl, rules, sym, ap, ◌∙◌}
 use Rattle.packet_lines.proofs.Reading.{one_more_byte, over_at_the_end, over_where_it_stops}
 use Rattle.packet_lines.specs.Pieces.{stops}
 use Rattle.packet_lines.proofs.listing.PacketListing.read.Goals.{else-loop-byte-test, then-loop-byte-test+then-stops}

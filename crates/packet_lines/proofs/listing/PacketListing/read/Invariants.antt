@@ -1,6 +1,4 @@
 -- What the reading comes to is the same from the place where it is as from the start.
-use Rattle.std.proofs.Common.{◌≡◌, ◌≤◌, length}
-use Rattle.lines.specs.Put.{placed}
 use Rattle.packet_lines.proofs.Reading.{Midst}
 use Rattle.packet_lines.proofs.listing.PacketListing.read.Given as goal
 
