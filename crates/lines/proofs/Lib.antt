@@ -1,9 +1,7 @@
-pub mod AfterRead
 pub mod AnyCutting
 pub mod Bounds
 pub mod Called
 pub mod Digits
-pub mod FirstBytes
 pub mod Flushing
 pub mod Loops
 pub mod Memory

@@ -19,7 +19,7 @@ use Rattle.lines.proofs.Whole.{all_taken, blocks_add_up, calls_add_up, nothing_l
 use Rattle.lines.specs.Cutting.{Cut, Finished, Run, after_piece, at_end, began, cut_all, cut_once}
 use Rattle.lines.specs.Line.{empty_line, pending}
 use Rattle.lines.specs.Listing.{listing}
-use Rattle.lines.specs.Loops.{Calls, Completes, CompletesInBlocks, SomeRoom, after_block, call_all, called, calls_left, closed, in_blocks, joined, through}
+use Rattle.lines.specs.Loops.{Calls, Completes, CompletesInBlocks, SomeRoom, call_all, called, calls_left, closed, in_blocks, joined, through}
 use Rattle.lines.specs.Loops as loops
 use Rattle.lines.specs.Pieces.{Piece, Read, end_by, ended_listing, fresh_listing, is_done, piece_of, read_listing, read_outcome, whole_piece, with_line, written_out}
 use Rattle.lines.specs.declared.line.Line.{Line}
@@ -196,8 +196,3 @@ read_in_blocks blocks =
           ap₂ (λ (xs : List ℕ) (l : Listing). xs ++ pending (ended_listing l).line) text next
           ∙ in_one_go (flatten blocks);
     }
-
--- a block that has bytes does not end the stream
-pub after_some_bytes : (l : Listing) (block : List ℕ) → 0 < length block → after_block l block ≡ (whole_piece l block).next
-after_some_bytes l [] some = absurd (omega (arith, some))
-after_some_bytes l (a ∷ rest) some = refl

@@ -1,4 +1,3 @@
-pub mod AfterRead
 pub mod Put
 pub mod Words
 pub mod Listing

@@ -1,7 +1,7 @@
 -- A stream that is read in blocks, each through to its end before the next, and then ended: the listing is done, and what was
 -- written is the definition's text.
 -- Assumes nothing.
-use Prim.Native.Nat.{ℕ, suc, ◌<◌}
+use Prim.Native.Nat.{ℕ, suc}
 use lib.ListN.{drop, drop_of_length-le, length}
 use mathlib.Core.Bool.{Bool, true, false, cond}
 use mathlib.Core.List.{List, [], ◌∷◌, ◌++◌, append_assoc, flatten}
@@ -11,7 +11,7 @@ use native.Mathlib.Omega.{arith}
 use Rattle.extended.proofs.Refines.{fresh_keeps_fresh}
 use Rattle.extended.specs.Extended.{Reader}
 use Rattle.packet_lines.proofs.Turns.{Goes, Sound, a_byte_sound, after_a_byte, done_is_silent, fresh_sound, the_end_says}
-use Rattle.packet_lines.specs.Blocks.{CompletesInBlocks, after_block, in_blocks, whole_end, whole_piece}
+use Rattle.packet_lines.specs.Blocks.{CompletesInBlocks, in_blocks, whole_end, whole_piece}
 use Rattle.packet_lines.specs.Calls.{says_yet}
 use Rattle.packet_lines.specs.Packets.{packet_lines, packets_from}
 use Rattle.packet_lines.specs.Pieces.{Piece, after_byte, fresh_listing, of_byte, of_end, said_only, stays}
@@ -84,8 +84,3 @@ read_in_blocks blocks =
       ends_done = end_is_done p.next;
       writes_all = ap (λ (xs : List ℕ). p.text ++ xs) (sym (end_says p.next all.1)) ∙ sym all.0 ∙ ap (λ (s : Reader). packets_from s 0 0 0 (flatten blocks)) fresh_keeps_fresh;
     }
-
--- a block that has bytes does not end the stream
-pub after_some_bytes : (l : PacketListing) (block : List ℕ) → 0 < length block → after_block l block ≡ (whole_piece l block).next
-after_some_bytes l [] some = absurd (omega (arith, some))
-after_some_bytes l (a ∷ rest) some = refl

@@ -1,0 +1,2 @@
+pub mod AfterRead
+pub mod Blocks
