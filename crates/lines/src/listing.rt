@@ -61,36 +61,28 @@ pub(crate) fn count_refusal(refused: u32, heard: Result<Option<Cea608>, InvalidP
 pub(crate) fn with_last_line(begun: Line, pairs: u32, refused: u32) -> Line
     ensures { result ≡ says begun (last_line pairs refused) }
 {
-    let mut bytes = begun.bytes;
+    let mut line = begun;
     let mut out = Writer {
-        out: &mut bytes,
+        out: &mut line.bytes,
         at: begun.len,
     };
     put_last_line(&mut out, pairs, refused);
-    let len = out.at;
-    Line {
-        bytes,
-        len,
-        ..begun
-    }
+    line.len = out.at;
+    line
 }
 
 // The same with the line of a refusal.
 pub(crate) fn with_refused_line(begun: Line, number: u32, refusal: u32) -> Line
     ensures { result ≡ says begun (line number (refused_words refusal)) }
 {
-    let mut bytes = begun.bytes;
+    let mut line = begun;
     let mut out = Writer {
-        out: &mut bytes,
+        out: &mut line.bytes,
         at: begun.len,
     };
     put_refused_line(&mut out, number, refusal);
-    let len = out.at;
-    Line {
-        bytes,
-        len,
-        ..begun
-    }
+    line.len = out.at;
+    line
 }
 
 // The listing between two pairs, with nothing that waits.
@@ -252,6 +244,7 @@ impl Listing {
     {
         let mut listing = self;
         let mut taken = 0;
+        // A turn takes a byte, or many pairs.
         while taken < input.len() {
             listing = listing.flush(out);
             if listing.line.has_more() || listing.ended {

@@ -155,17 +155,6 @@ pub fn put_refused_line(out: &mut Writer, number: u32, refusal: u32)
     out.put(b'\n');
 }
 
-// The line of a pair that was refused 1, with the same room as that of an event.
-// Not inlined: the loop over pairs is faster without it.
-#[inline(never)]
-pub(crate) fn put_invalid_parity(out: &mut Writer, number: u32)
-    requires { (number < 100000000) × HasRoom out.old line_length }
-    ensures { Puts out.old (line number (refused_words 1)) out.new }
-{
-    out.put_number(number);
-    out.put_bytes(b" refused 1\n");
-}
-
 // The line of what a pair gave, if it gave anything, with the same room.
 pub(crate) fn put_line_of(
     out: &mut Writer,
@@ -178,7 +167,7 @@ pub(crate) fn put_line_of(
     match heard {
         Ok(Some(event)) => put_event_line(out, number, event),
         Ok(None) => {}
-        Err(InvalidParity) => put_invalid_parity(out, number),
+        Err(InvalidParity) => put_refused_line(out, number, 1),
     }
 }
 

@@ -1,13 +1,11 @@
 -- What a push stores, test by test in the order of the refusals, and the ring that it leaves.
 -- Assumes nothing.
-use mathlib.Core.Bool.{Bool, true, false, cond, ◌&&◌}
+use mathlib.Core.Bool.{Bool, true, false, cond}
 use Rattle.std.specs.Prelude.{Option, None, Some, Result, Ok, Err, IsErrAnd}
 use mathlib.Core.Path.{◌≡◌, refl, ap, sym, ◌∙◌}
 use Prim.Native.Nat.{ℕ, ◌≤◌, ◌<◌}
 use native.Mathlib.Omega.{arith}
-use borrow.Author.Tests.{le-leb, lt-leb, ltb-true}
-use lib.Dec.{leb, ltb}
-use Rattle.code.proofs.Both.{both_left}
+use borrow.Author.Tests.{le-leb, lt-leb}
 use Rattle.code.specs.Outcome.{Outcome, answer, refused}
 use Rattle.code.specs.declared.code.Code.{Code}
 use Rattle.code.specs.declared.code.Code.TheVariants as code
@@ -17,7 +15,7 @@ use Rattle.queue.specs.Entry.{entry_for, entry_outcome, if_stored, queueable_ref
 use Rattle.queue.specs.Number.{number_of, numbered, with_number}
 use Rattle.queue.specs.Queue.{admit, admit_by, entered, is_full, is_nul}
 use Rattle.queue.specs.Queueable.{queueable}
-use Rattle.queue.specs.Ring.{formed_by, held_fits, held_in, push_outcome, push_refusal, push_ring, stored, stored_as, stored_number, well_formed}
+use Rattle.queue.specs.Ring.{formed_by, push_refusal, push_ring, stored, stored_as, stored_number, well_formed}
 use Rattle.queue.specs.declared.push.PushError.{PushError}
 use Rattle.queue.specs.declared.queueable.QueueableError.{QueueableError}
 use Rattle.queue.specs.declared.ring.Queue.{Queue}

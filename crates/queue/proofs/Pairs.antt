@@ -14,7 +14,6 @@ use Rattle.code.specs.Code.{byte_len, needs_backspace}
 use Rattle.code.specs.Outcome.{Outcome, answer, is_answer, refused}
 use Rattle.code.specs.Parity.{stripped}
 use Rattle.code.specs.Read.{is_command, read_pair}
-use Rattle.code.specs.Pair.{pair}
 use Rattle.code.specs.Write.{write_code}
 use Rattle.code.specs.declared.code.Code.{Code}
 use Rattle.code.specs.declared.pair.Pair.{Pair}

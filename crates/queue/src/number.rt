@@ -86,7 +86,7 @@ pub(crate) fn pair_of(number: u16) -> Pair
 }
 
 // Whether the queue puts a space before a command: before 11 20 to 11 2F, 12 20 to 12 3F and 13 20 to 13 3F, where they
-// are no `Unknown`.
+// are no `Unknown`. Each by an arm of its own: the compiler then makes one test of them, and of an or-pattern several.
 #[tactic(auto, using(crate::proofs::Numbered::backspace_told))]
 pub(crate) fn needs_backspace(number: u16) -> bool
     requires { number < 0x8000 }

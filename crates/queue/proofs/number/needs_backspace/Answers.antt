@@ -1,5 +1,5 @@
 -- The number is none of those that want a space, and the law of the bits says that there are no others.
-use Rattle.std.proofs.Common.{◌≡◌, ℕ, ◌/◌, ◌%◌, refl, sym, ◌∙◌, arith}
+use Rattle.std.proofs.Common.{ℕ, ◌/◌, ◌%◌, refl, sym, ◌∙◌, arith}
 use borrow.Author.Tests.{ne_eqb}
 use Rattle.queue.proofs.Numbered.{backspace_told}
 use Rattle.queue.proofs.number.needs_backspace.Goals as goal

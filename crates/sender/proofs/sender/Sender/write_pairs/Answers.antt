@@ -1,5 +1,5 @@
 -- A turn of the loop is a send (`Filling.one_turn`), and with no turn left the writer has come to what has been done.
-use Rattle.std.proofs.Common.{◌+◌, ◌*◌, ◌≡◌, ℕ, true, ap, sym, ◌∙◌, set, length-set, arith}
+use Rattle.std.proofs.Common.{◌+◌, ◌*◌, ◌≡◌, true, ap, sym, ◌∙◌, set, arith}
 use Rattle.code.specs.Outcome.{Outcome}
 use Rattle.code.specs.declared.pair.Pair.{Pair}
 use Rattle.queue.proofs.WellFormed.{formed}
