@@ -1,118 +1,85 @@
 // The queries of extended data. They ask one state, which is kept from query to query.
 ghost use Rattle.std.specs.Prelude.{◌<◌, ◌≤◌};
 
-use crate::query::not_a_query;
-use crate::to_bytes::one;
-use crate::{event_bytes, from_bytes, receiver_query};
-use code::{Field, Pair};
-use extended::{Class, Contents, ExtendedState, Given, PacketType, Running, Unfinished};
-use receiver::{Cea608State, LastChannel, LastField, LastPair};
+use crate::from_bytes::bytes_at;
+use crate::refusal::{Answer, NOT_A_QUERY};
+use crate::to_bytes::padded;
+use crate::{event_bytes, from_bytes, to_bytes};
+use code::Pair;
+use extended::{Class, Contents, ExtendedState, Given, Packet, Running, Unfinished};
+use receiver::{Cea608State, LastChannel};
 
-// The state, and the contents that the last pair gave.
+// The state, and the contents of the packet that the last pair finished, or none.
 #[derive(Clone, Copy)]
 pub(crate) struct Kept {
     pub state: ExtendedState,
     pub contents: Contents,
 }
 
-// An answer, and what is kept after it.
-#[derive(Clone, Copy)]
-pub(crate) struct ExtendedAnswered {
-    pub answer: [u8; 16],
-    pub kept: Kept,
-}
+const NO_CONTENTS: Contents = Contents {
+    length: 0,
+    bytes: [0; 32],
+};
 
-// Whether a kind is one of extended data.
-pub(crate) fn asks_extended(kind: u8) -> bool {
-    kind / 16 == 5
-}
-
-// Before the first query.
-pub(crate) fn fresh() -> Kept {
-    Kept {
-        state: ExtendedState::new(),
-        contents: Contents {
-            length: 0,
-            bytes: [0; 32],
-        },
+impl Kept {
+    // Before the first query.
+    pub(crate) fn new() -> Kept {
+        Kept {
+            state: ExtendedState::new(),
+            contents: NO_CONTENTS,
+        }
     }
 }
 
-pub(crate) fn answer(kept: Kept, asked: [u8; 16]) -> ExtendedAnswered {
-    let kind = asked[0];
-    let state = kept.state;
-    let contents = kept.contents;
-    if kind == 0x51 {
-        return decode(state, Pair(asked[1], asked[2]));
-    }
-    ExtendedAnswered {
-        answer: get(state, contents, asked),
-        kept: Kept {
-            state: set(state, asked),
-            contents: contents,
-        },
-    }
-}
-
-fn decode(state: ExtendedState, pair: Pair) -> ExtendedAnswered {
-    let received = state.decode(pair);
-    let given = received.answer;
-    let contents = received.contents;
-    let next = received.state;
-    ExtendedAnswered {
-        answer: given_bytes(given, contents),
-        kept: Kept {
-            state: next,
-            contents: contents,
-        },
+pub(crate) fn answer(kept: &mut Kept, asked: [u8; 16]) -> Answer {
+    match asked[0] {
+        0x50 | 0x53..=0x58 => {
+            set(&mut kept.state, asked);
+            Ok([0u8; 16])
+        }
+        0x51 => decode(kept, Pair(asked[1], asked[2])),
+        0x52 => Ok(part(&kept.contents, asked[1])),
+        0x59 => Ok(types(&kept.state)),
+        0x5A => Ok(lengths_and_captions(&kept.state)),
+        0x5B => Ok(part(&kept.state.packets[place(asked[1])].contents, asked[2])),
+        _ => Err(NOT_A_QUERY),
     }
 }
 
-fn given_bytes(given: Given, contents: Contents) -> [u8; 16] {
-    match given {
-        Given::Event(e) => event_bytes::event_answer(e),
-        Given::Nothing => [0u8; 16],
-        Given::Packet(class, kind) => packet_bytes(class, kind, contents),
-        Given::InvalidParity => one(1),
-        Given::NotOpen => one(13),
-        Given::TooLong => one(14),
-        Given::WrongSum => one(15),
+fn decode(kept: &mut Kept, pair: Pair) -> Answer {
+    let (state, given) = kept.state.decode(pair);
+    *kept = Kept {
+        state,
+        contents: NO_CONTENTS,
+    };
+    match given? {
+        None => Ok([0u8; 16]),
+        Some(Given::Event(e)) => Ok(event_bytes::event_answer(e)),
+        Some(Given::Packet(packet)) => {
+            kept.contents = packet.contents;
+            Ok(packet_answer(packet))
+        }
     }
 }
 
-fn packet_bytes(class: Class, kind: u8, contents: Contents) -> [u8; 16] {
-    let mut out = [0u8; 16];
-    out[1] = 2;
-    out[2] = class.number();
-    out[3] = kind;
-    out[4] = count(contents);
-    out
+fn packet_answer(packet: Packet) -> [u8; 16] {
+    padded(&[
+        0,
+        2,
+        packet.class.number(),
+        packet.packet_type,
+        count(&packet.contents),
+    ])
 }
 
-// The state with a piece of it set, or anew, or as it is.
-fn set(state: ExtendedState, asked: [u8; 16]) -> ExtendedState {
-    let kind = asked[0];
-    match kind {
-        0x50 => state.reset(),
-        0x53 => ExtendedState::new(),
-        0x54 => with_running(state, running(asked[1])),
-        0x55..=0x57 => with_packet(state, asked[1], changed(packet(state, asked[1]), asked)),
-        0x58 => with_captions(state, captions(asked)),
-        _ => state,
-    }
-}
-
-// What is asked of the state, and nothing where it is set.
-fn get(state: ExtendedState, contents: Contents, asked: [u8; 16]) -> [u8; 16] {
-    let kind = asked[0];
-    match kind {
-        0x50 => [0u8; 16],
-        0x52 => part(contents, asked[1]),
-        0x53..=0x58 => [0u8; 16],
-        0x59 => types(state),
-        0x5A => lengths_and_captions(state),
-        0x5B => part(packet(state, asked[1]).contents, asked[2]),
-        _ => not_a_query(),
+// Sets a piece of the state, or makes it anew.
+fn set(state: &mut ExtendedState, asked: [u8; 16]) {
+    match asked[0] {
+        0x50 => *state = state.reset(),
+        0x53 => *state = ExtendedState::new(),
+        0x54 => state.running = running(asked[1]),
+        0x55..=0x57 => set_packet(&mut state.packets[place(asked[1])], asked),
+        _ => state.captions = captions(asked),
     }
 }
 
@@ -136,26 +103,6 @@ fn running(number: u8) -> Running {
     }
 }
 
-fn with_running(state: ExtendedState, running: Running) -> ExtendedState {
-    let captions = state.captions;
-    let packets = state.packets;
-    ExtendedState {
-        captions: captions,
-        running: running,
-        packets: packets,
-    }
-}
-
-fn with_captions(state: ExtendedState, captions: Cea608State) -> ExtendedState {
-    let running = state.running;
-    let packets = state.packets;
-    ExtendedState {
-        captions: captions,
-        running: running,
-        packets: packets,
-    }
-}
-
 // The place of a class's packet.
 fn place(number: u8) -> usize
     ensures { result < 7 }
@@ -163,96 +110,27 @@ fn place(number: u8) -> usize
     (number as usize + 6) % 7
 }
 
-fn packet(state: ExtendedState, number: u8) -> Unfinished {
-    let packets = state.packets;
-    packets[place(number)]
-}
-
-fn with_packet(state: ExtendedState, number: u8, packet: Unfinished) -> ExtendedState {
-    let captions = state.captions;
-    let running = state.running;
-    let mut packets = state.packets;
-    packets[place(number)] = packet;
-    ExtendedState {
-        captions: captions,
-        running: running,
-        packets: packets,
+// Sets a packet's type, its length or a part of its contents.
+fn set_packet(packet: &mut Unfinished, asked: [u8; 16]) {
+    match asked[0] {
+        0x55 => packet.packet_type = (asked[2] == 1).then_some(asked[3]),
+        0x56 => packet.contents.length = asked[2],
+        _ => set_part(&mut packet.contents.bytes, asked[2] as usize, asked),
     }
 }
 
-// A packet with its type, its length or a part of its contents set.
-fn changed(packet: Unfinished, asked: [u8; 16]) -> Unfinished {
-    let own = packet.packet_type;
-    let contents = packet.contents;
-    let query = asked[0];
-    match query {
-        0x55 => Unfinished {
-            packet_type: type_of(asked[2], asked[3]),
-            contents: contents,
-        },
-        0x56 => Unfinished {
-            packet_type: own,
-            contents: with_length(contents, asked[2]),
-        },
-        _ => Unfinished {
-            packet_type: own,
-            contents: with_part(contents, asked[2], asked),
-        },
+// Sets thirteen bytes of the contents, as many of them as there are places for.
+fn set_part(bytes: &mut [u8; 32], at: usize, asked: [u8; 16]) {
+    for (to, byte) in bytes.iter_mut().skip(at).zip(&asked[3..]) {
+        *to = *byte;
     }
-}
-
-fn type_of(there: u8, number: u8) -> PacketType {
-    if there == 1 {
-        PacketType::Known(number)
-    } else {
-        PacketType::Absent
-    }
-}
-
-fn with_length(contents: Contents, length: u8) -> Contents {
-    let bytes = contents.bytes;
-    Contents {
-        length: length,
-        bytes: bytes,
-    }
-}
-
-// The contents with thirteen bytes set, as many of them as there are places for.
-fn with_part(contents: Contents, at: u8, asked: [u8; 16]) -> Contents {
-    let mut bytes = contents.bytes;
-    let mut i: usize = 0;
-    while i < 13 {
-        let next = with_byte(bytes, at as usize + i, asked[3 + i]);
-        bytes = next;
-        i += 1;
-    }
-    Contents {
-        length: contents.length,
-        bytes: bytes,
-    }
-}
-
-fn with_byte(bytes: [u8; 32], at: usize, byte: u8) -> [u8; 32] {
-    let mut next = bytes;
-    if at < 32 {
-        next[at] = byte;
-    }
-    next
 }
 
 fn captions(asked: [u8; 16]) -> Cea608State {
     Cea608State {
-        last_data: last_pair(asked),
+        last_data: from_bytes::maybe_pair(bytes_at(&asked, 1)),
         last_channel: last_channel(asked[4]),
-        last_received_field: last_field(asked[5]),
-    }
-}
-
-fn last_pair(asked: [u8; 16]) -> LastPair {
-    if asked[1] == 1 {
-        LastPair::Was(Pair(asked[2], asked[3]))
-    } else {
-        LastPair::Absent
+        last_received_field: from_bytes::field(asked[5]),
     }
 }
 
@@ -263,46 +141,21 @@ fn last_channel(number: u8) -> LastChannel {
     }
 }
 
-fn last_field(number: u8) -> LastField {
-    match number {
-        0 => LastField::Absent,
-        _ => LastField::Known(Field(number == 1)),
-    }
-}
-
 // How many contents there are.
-fn count(contents: Contents) -> u8
+fn count(contents: &Contents) -> u8
     ensures { result ≤ 32 }
 {
-    let length = contents.length;
-    if length < 32 { length } else { 32 }
-}
-
-// How many there are from a place on, at most fourteen.
-fn count_from(contents: Contents, at: u8) -> u8 {
-    let count = count(contents);
-    if at >= count {
-        return 0;
-    }
-    let left = count - at;
-    if left < 14 { left } else { 14 }
-}
-
-// The byte at a place, or 0 where there are no contents.
-fn byte_at(contents: Contents, at: usize) -> u8 {
-    let bytes = contents.bytes;
-    let count = count(contents) as usize;
-    if at < count { bytes[at] } else { 0 }
+    contents.length.min(32)
 }
 
 // How many contents there are from a place on, at most fourteen, and these.
-fn part(contents: Contents, at: u8) -> [u8; 16] {
-    let mut out = one(count_from(contents, at));
-    let mut i: usize = 0;
-    while i < 14 {
-        out[1 + i] = byte_at(contents, at as usize + i);
-        i += 1;
-    }
+fn part(contents: &Contents, at: u8) -> [u8; 16] {
+    let count = count(contents) as usize;
+    let start = count.min(at as usize);
+    let end = count.min(start + 14);
+    let shown = &contents.bytes[start..end];
+    let mut out = padded(&[shown.len() as u8]);
+    out[1..=shown.len()].copy_from_slice(shown);
     out
 }
 
@@ -313,36 +166,14 @@ fn running_number(running: Running) -> u8 {
     }
 }
 
-// Whether there is a packet, and its type.
-fn type_bytes(packet: Unfinished) -> [u8; 2] {
-    let own = packet.packet_type;
-    match own {
-        PacketType::Absent => [0, 0],
-        PacketType::Known(known) => [1, known],
-    }
-}
-
-// What runs, then the type of each class's packet.
-fn types(state: ExtendedState) -> [u8; 16] {
-    let running = state.running;
-    let packets = state.packets;
-    let mut out = one(running_number(running));
-    let mut i: usize = 0;
-    while i < 7 {
-        let bytes = type_bytes(packets[i]);
-        out[1 + 2 * i] = bytes[0];
-        out[2 + 2 * i] = bytes[1];
-        i += 1;
+// What runs, then whether each class has a packet, and its type.
+fn types(state: &ExtendedState) -> [u8; 16] {
+    let mut out = padded(&[running_number(state.running)]);
+    for (i, packet) in state.packets.iter().enumerate() {
+        out[1 + 2 * i] = packet.packet_type.is_some() as u8;
+        out[2 + 2 * i] = packet.packet_type.unwrap_or(0);
     }
     out
-}
-
-// Whether there is a last pair, and the pair.
-fn last_pair_bytes(last: LastPair) -> [u8; 3] {
-    match last {
-        LastPair::Absent => [0, 0, 0],
-        LastPair::Was(pair) => [1, pair.0, pair.1],
-    }
 }
 
 fn channel_number(last: LastChannel) -> u8 {
@@ -352,32 +183,14 @@ fn channel_number(last: LastChannel) -> u8 {
     }
 }
 
-// The captions' receiver, after seven bytes for the lengths.
-fn captions_bytes(captions: Cea608State) -> [u8; 16] {
-    let last_data = captions.last_data;
-    let channel = captions.last_channel;
-    let field = captions.last_received_field;
-    let last = last_pair_bytes(last_data);
-    let mut out = [0u8; 16];
-    out[7] = last[0];
-    out[8] = last[1];
-    out[9] = last[2];
-    out[10] = channel_number(channel);
-    out[11] = receiver_query::field_number(field);
-    out
-}
-
 // The length of each class's contents as it is stored, then the captions' receiver.
-fn lengths_and_captions(state: ExtendedState) -> [u8; 16] {
-    let captions = state.captions;
-    let packets = state.packets;
-    let mut out = captions_bytes(captions);
-    let mut i: usize = 0;
-    while i < 7 {
-        let packet = packets[i];
-        let contents = packet.contents;
-        out[i] = contents.length;
-        i += 1;
+fn lengths_and_captions(state: &ExtendedState) -> [u8; 16] {
+    let mut out = [0u8; 16];
+    for (to, packet) in out.iter_mut().zip(&state.packets) {
+        *to = packet.contents.length;
     }
+    out[7..10].copy_from_slice(&to_bytes::maybe_pair(state.captions.last_data));
+    out[10] = channel_number(state.captions.last_channel);
+    out[11] = to_bytes::field(state.captions.last_received_field);
     out
 }

@@ -1,19 +1,29 @@
-// Values of the code layer from the bytes of a query. Each place is written out here once more, so that a table of the
-// code layer is not asked what it means. A byte outside its range stands for some value or other.
+// Values of the code layer from the bytes of a query. A byte outside its range stands for some value or other.
+//
+// Each table is written out here once more on purpose, where the code layer's `try_from` would do: a table of the code layer
+// is not asked what it means, so that an error in it shows in the comparison.
+ghost use Rattle.std.specs.Prelude.{◌+◌, ◌≤◌, length};
+
 use code::{
-    Channel, Code, CodeField, Color, Column, Command, Control, ControlCode, Field, Letter,
-    LetterRow, MidRow, MidRowColor, PreambleAddressCode, PreambleType, Symbol, SymbolRow, Tab,
+    Channel, Code, Color, Column, Command, Control, ControlCode, Field, Letter, LetterRow, MidRow,
+    MidRowColor, Pair, PreambleAddressCode, PreambleType, Symbol, SymbolRow, Tab,
 };
+
+// So many bytes from a place on.
+pub(crate) fn bytes_at<const N: usize>(bytes: &[u8], at: usize) -> [u8; N]
+    requires { at + N ≤ length bytes.now }
+{
+    let mut out = [0u8; N];
+    out.copy_from_slice(&bytes[at..at + N]);
+    out
+}
 
 pub(crate) fn channel(n: u8) -> Channel {
     Channel(n == 1)
 }
 
-pub(crate) fn field(n: u8) -> CodeField {
-    match n {
-        0 => CodeField::Absent,
-        _ => CodeField::Of(Field(n == 1)),
-    }
+pub(crate) fn field(n: u8) -> Option<Field> {
+    (n != 0).then_some(Field(n == 1))
 }
 
 pub(crate) fn color(n: u8) -> Color {
@@ -29,10 +39,8 @@ pub(crate) fn color(n: u8) -> Color {
 }
 
 pub(crate) fn style(n: u8) -> PreambleType {
-    if n < 7 {
-        return PreambleType::Color(color(n));
-    }
     match n {
+        0..=6 => PreambleType::Color(color(n)),
         7 => PreambleType::WhiteItalics,
         8 => PreambleType::Indent0,
         9 => PreambleType::Indent4,
@@ -75,10 +83,9 @@ fn letter(place: u8) -> Letter {
         4 => LetterRow::Row6,
         _ => LetterRow::Row7,
     };
-    let column = column(place % 16);
     Letter {
-        row: row,
-        column: column,
+        row,
+        column: column(place % 16),
     }
 }
 
@@ -90,10 +97,9 @@ fn symbol(place: u8) -> Symbol {
         3 => SymbolRow::Portuguese,
         _ => SymbolRow::German,
     };
-    let column = column(place % 16);
     Symbol {
-        row: row,
-        column: column,
+        row,
+        column: column(place % 16),
     }
 }
 
@@ -127,14 +133,12 @@ fn tab(n: u8) -> Tab {
 }
 
 pub(crate) fn mid_row(n: u8, underline: bool) -> MidRow {
-    let mut kind = MidRowColor::Italics;
-    if n < 7 {
-        kind = MidRowColor::Color(color(n));
-    }
-    MidRow {
-        color: kind,
-        underline: underline,
-    }
+    let color = if n < 7 {
+        MidRowColor::Color(color(n))
+    } else {
+        MidRowColor::Italics
+    };
+    MidRow { color, underline }
 }
 
 // A control by its kind, 3 to 8, and x, y and z.
@@ -153,17 +157,23 @@ pub(crate) fn control(kind: u8, x: u8, y: u8, z: u8) -> Control {
     }
 }
 
-// A code by its six bytes, which start at the second of the query.
-pub(crate) fn code(asked: [u8; 16]) -> Code {
-    let kind = asked[1];
+// A code by its kind, field, channel, x, y and z.
+pub(crate) fn code(bytes: [u8; 6]) -> Code {
+    let [kind, of_field, of_channel, x, y, z] = bytes;
     match kind {
         0 => Code::Nul,
-        1 => Code::Letter(letter(asked[4])),
-        2 => Code::Unknown(asked[4]),
+        1 => Code::Letter(letter(x)),
+        2 => Code::Unknown(x),
         _ => Code::Control(ControlCode {
-            field: field(asked[2]),
-            channel: channel(asked[3]),
-            control: control(kind, asked[4], asked[5], asked[6]),
+            field: field(of_field),
+            channel: channel(of_channel),
+            control: control(kind, x, y, z),
         }),
     }
+}
+
+// A pair, where the first byte is 1.
+pub(crate) fn maybe_pair(bytes: [u8; 3]) -> Option<Pair> {
+    let [there, first, second] = bytes;
+    (there == 1).then_some(Pair(first, second))
 }
