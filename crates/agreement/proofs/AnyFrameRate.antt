@@ -2,10 +2,9 @@
 -- no test for repeats; so what holds of the padded pairs (`Agreement.odd_pairs_agree`) holds of the queue's. And a case:
 -- padding after two copies of a command, one of which is corrupted.
 -- Assumes nothing.
-use Rattle.std.specs.Prelude.{Some}
+use Rattle.std.specs.Prelude.{Some, Option}
 use mathlib.Core.Bool.{Bool, true, false, cond}
 use mathlib.Core.List.{List, [], ◌∷◌}
-use Rattle.std.specs.Prelude.{Option}
 use mathlib.Core.Path.{◌≡◌, refl, ap, sym, subst, ◌∙◌}
 use lib.Count.{ones, ones_in}
 use lib.ListN.{replicate}

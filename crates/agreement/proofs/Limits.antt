@@ -2,10 +2,9 @@
 -- whole over a line that corrupts one copy of each command; with both copies of the carriage return corrupted the
 -- window does not scroll; with the text corrupted its words are lost. antt computes each from the definitions.
 -- Assumes nothing.
-use Rattle.std.specs.Prelude.{Some}
+use Rattle.std.specs.Prelude.{Some, None}
 use mathlib.Core.Bool.{true, false}
 use mathlib.Core.List.{List, [], ◌∷◌, map}
-use Rattle.std.specs.Prelude.{None}
 use mathlib.Core.Path.{◌≡◌, refl, ap, ◌∙◌}
 use native.Mathlib.Omega.{arith}
 use lib.Count.{ones, ones_in}

@@ -12,9 +12,8 @@ use lib.Dec.{eqb}
 use lib.ListN.{drop, get_or, length, replicate, take}
 use Rattle.code.proofs.SamePair.{same_itself}
 use Rattle.code.proofs.Both.{both_true}
-use Rattle.code.specs.Pair.{same_pair}
+use Rattle.code.specs.Pair.{same_pair, pair}
 use Rattle.code.specs.Read.{is_odd_pair}
-use Rattle.code.specs.Pair.{pair}
 use Rattle.code.specs.declared.pair.Pair.{Pair}
 use Rattle.agreement.specs.Agreement.{Carried, Line, OneEachStretch, how_many, corrupted_places}
 use Rattle.agreement.specs.Agreement as line

@@ -1,7 +1,6 @@
 -- What padding does to a receiver: it gives no event, and leaves channel and field as they are.
 -- Assumes nothing.
-use Rattle.std.specs.Prelude.{Some}
-use Rattle.std.specs.Prelude.{None}
+use Rattle.std.specs.Prelude.{Some, None}
 use mathlib.Core.Path.{◌≡◌, refl, ap, ◌∙◌}
 use Rattle.agreement.specs.Pairs.{padding}
 use Rattle.code.proofs.WrittenLemmas.{padding_read}

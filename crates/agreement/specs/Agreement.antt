@@ -1,7 +1,6 @@
 -- The agreement: demand 3 of the customer's letter, its sentences in their order. `DemandThree` at the end is the demand;
 -- `agreement` in proofs/Agreement.antt proves it. Every call in it is the definition to which a promise binds the code.
-use Rattle.std.specs.Prelude.{ℕ, suc, ◌≤◌, Bool, true, false, not, List, [], ◌∷◌, ◌++◌, map, ◌≡◌, drop, length, replicate, take}
-use Rattle.std.specs.Prelude.{Option}
+use Rattle.std.specs.Prelude.{ℕ, suc, ◌≤◌, Bool, true, false, not, List, [], ◌∷◌, ◌++◌, map, ◌≡◌, drop, length, replicate, take, Option}
 use Rattle.code.specs.Outcome.{Outcome, answer, refused}
 use Rattle.code.specs.Pair.{same_pair}
 use Rattle.code.specs.Read.{is_command_pair, is_odd_pair}

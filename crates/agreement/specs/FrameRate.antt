@@ -2,8 +2,7 @@
 -- places padding may be put in or taken out, and `FrameRateLaw` that a receiver notices it at every other place.
 -- `RepaddedLaw` at the end is for whole streams, any number of places at once. proofs/FrameRate.antt and
 -- proofs/Repadded.antt prove the two. The port's own words, over the receiver's step.
-use Rattle.std.specs.Prelude.{Bool, true, false, cond, not, ◌||◌, List, [], ◌∷◌, ◌↔◌, ◌≡◌}
-use Rattle.std.specs.Prelude.{Option, None, Some}
+use Rattle.std.specs.Prelude.{Bool, true, false, cond, not, ◌||◌, List, [], ◌∷◌, ◌↔◌, ◌≡◌, Option, None, Some}
 use Rattle.code.specs.Outcome.{Outcome}
 use Rattle.code.specs.Parity.{stripped}
 use Rattle.code.specs.Read.{control_code_of, is_command_pair, is_odd_pair}

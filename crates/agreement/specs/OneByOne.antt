@@ -1,7 +1,6 @@
 -- The line pair by pair, in the port's own words. One thing is remembered: the pair of which a copy was corrupted in
 -- the stretch so far, if any. `Line` says the same of whole stretches; proofs/OneByOne.antt proves each from the other.
-use Rattle.std.specs.Prelude.{Bool, true, false, cond, List, [], ◌∷◌, ◌≡◌}
-use Rattle.std.specs.Prelude.{Option, None, Some}
+use Rattle.std.specs.Prelude.{Bool, true, false, cond, List, [], ◌∷◌, ◌≡◌, Option, None, Some}
 use Rattle.code.specs.declared.pair.Pair.{Pair}
 use Rattle.code.specs.Pair.{same_pair}
 use Rattle.code.specs.Read.{is_command_pair, is_odd_pair}

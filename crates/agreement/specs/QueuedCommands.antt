@@ -1,7 +1,6 @@
 -- What is queued as a command is sent as a command, twice: T-04, over whole runs. `QueuedCommandsLaw` at the end is the
 -- law; `queued_commands` in proofs/QueuedCommands.antt proves it.
-use Rattle.std.specs.Prelude.{true, cond, List, [], ◌∷◌, ◌++◌, ◌≡◌}
-use Rattle.std.specs.Prelude.{Option, None}
+use Rattle.std.specs.Prelude.{true, cond, List, [], ◌∷◌, ◌++◌, ◌≡◌, Option, None}
 use Rattle.code.specs.Outcome.{Outcome, answer, refused}
 use Rattle.code.specs.Read.{is_command_pair}
 use Rattle.code.specs.declared.code.Code.{Code}

@@ -2,9 +2,7 @@
 -- is sent before i is pushed goes out as C8 80, and i as E9 80; both pushed first go out as C8 E9. So the events differ, and
 -- their characters, one by one, do not. `ShownLaw` says what is shown: what each accepted code shows when it is sent alone.
 -- `TwoRunsLaw`, at the end, says that two runs show the same. proofs/Shown.antt proves both.
-use Rattle.std.specs.Prelude.{None, Option, Some}
-use Rattle.std.specs.Prelude.{ℕ}
-use Rattle.std.specs.Prelude.{Bool, true, false, cond, ◌&&◌, not, List, [], ◌∷◌, ◌++◌, ◌≡◌}
+use Rattle.std.specs.Prelude.{None, Option, Some, ℕ, Bool, true, false, cond, ◌&&◌, not, List, [], ◌∷◌, ◌++◌, ◌≡◌}
 use Rattle.code.specs.Code.{needs_backspace}
 use Rattle.code.specs.declared.channel.Channel.{Channel}
 use Rattle.code.specs.declared.code.Code.{Code}

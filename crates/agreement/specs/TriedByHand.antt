@@ -1,8 +1,7 @@
 -- 01's pairs tried by hand that are to be proved, those marked P, as one list in 01's order, each with what is asked of
 -- it and what it gives. A pair is read by itself, or pairs by a fresh receiver, or codes are queued and pairs popped.
 use Rattle.code.specs.declared.channel.Field.{Field}
-use Rattle.std.specs.Prelude.{ℕ, false, List, [], ◌∷◌, ◌++◌, map, replicate}
-use Rattle.std.specs.Prelude.{Option, None, Some}
+use Rattle.std.specs.Prelude.{ℕ, false, List, [], ◌∷◌, ◌++◌, map, replicate, Option, None, Some}
 use Rattle.code.specs.Channel.{channel_one, field_one, field_two}
 use Rattle.code.specs.MidRow.{italic}
 use Rattle.code.specs.Outcome.{Outcome, answer}

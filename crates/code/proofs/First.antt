@@ -4,16 +4,14 @@ use Rattle.std.specs.List as library
 use Rattle.std.specs.List.{position_or_len}
 use Rattle.std.proofs.lemmas.Bool.{lt-ltb, le-ltb, ltb-true, ltb-false}
 use lib.Dec.{eqb, ltb}
-use Prim.Native.Nat.{◌+◌}
+use Prim.Native.Nat.{◌+◌, ℕ, zero, suc, ◌<◌}
 use mathlib.Core.Path.{◌≡◌, refl, sym, ap, ◌∙◌}
 use mathlib.Core.List.{List, [], ◌∷◌, map}
 use mathlib.Core.Bool.{Bool, true, false, cond, not}
 use Rattle.std.specs.Prelude.{Option, None, Some}
 use Rattle.std.proofs.lemmas.Option.{none-some, same_Some}
-use Prim.Native.Nat.{ℕ, zero, suc, ◌<◌}
-use native.Mathlib.Nat.{le_of_suc-le-suc, not-suc-le-zero, zero-lt-suc, suc-le-suc_iff}
+use native.Mathlib.Nat.{zero-lt-suc, suc-le-suc_iff}
 use native.Mathlib.Omega.{arith}
-use borrow.Author.Tests.{eq-eqb, ne_eqb}
 use lib.ListN.{length, get_or}
 use Rattle.code.specs.Position.{first_place, later, position}
 use Rattle.code.specs.Tables.{point_of}
@@ -53,7 +51,7 @@ placed : (t : Bool) (k n : ℕ) (o : Option ℕ) → cond (ltb k n) (Some k) Non
 placed true k n o e = rw (lt-ltb 0 (suc n) (zero-lt-suc n)) refl
 placed false k n o e = counted k n (ltb k n) refl ∙ ap later e
 
-pub by_library : {A : Type 0} (test : A → Bool) (l : List A) → library.position test l ≡ first_place test l
+by_library : {A : Type 0} (test : A → Bool) (l : List A) → library.position test l ≡ first_place test l
 by_library test [] = refl
 by_library test (x ∷ xs) = placed (test x) (position_or_len test xs) (length xs) (first_place test xs) (by_library test xs)
 

@@ -1,10 +1,9 @@
 -- The standard characters against ASCII, the symbols by their code points, numbers in the order of the codes, the indents by
 -- their columns, channels and fields by their numbers, and the refusal of each call by its number in 01.
 -- Assumes nothing.
-use Rattle.std.specs.Prelude.{None}
+use Rattle.std.specs.Prelude.{None, Some}
 use mathlib.Core.Bool.{Bool, false, cond}
 use mathlib.Core.List.{List, [], ◌∷◌, ◌++◌, map}
-use Rattle.std.specs.Prelude.{Some}
 use mathlib.Core.Path.{◌≡◌, refl, ap, sym, ◌∙◌}
 use Prim.Native.Nat.{ℕ, zero, suc, ◌≤◌, ◌<◌}
 use lib.Count.{ones, ones_in}

@@ -5,7 +5,7 @@
 use mathlib.Core.Path.{◌≡◌, refl, ap, ap₂, sym, ◌∙◌}
 use Prim.Native.Nat.{ℕ}
 use native.Mathlib.Omega.{arith}
-use Rattle.std.specs.Prelude.{Result, Ok, Err}
+use Rattle.std.specs.Prelude.{Ok, Err}
 use Rattle.code.specs.Code.{from_char_outcome}
 use Rattle.code.specs.Control.{tab_offset_outcome}
 use Rattle.code.specs.Outcome.{Outcome, answer, outcome, refused}

@@ -1,9 +1,8 @@
 -- What is known of every pair that is read as a command by its two stripped bytes: its channel, its field, what an
 -- `Unknown` holds, and whether it needs a backspace. From 01's "Pairs and codes"; `every_command` in proofs/ByBytes.antt is
 -- the law. The bytes are spelled here, and not taken from the definitions that they hold.
-use Rattle.std.specs.Prelude.{None, Option, Some}
+use Rattle.std.specs.Prelude.{None, Option, Some, ℕ, ◌+◌, Bool, cond, ◌&&◌, ◌||◌, ◌≡◌, eqb}
 use Rattle.code.specs.declared.channel.Field.{Field}
-use Rattle.std.specs.Prelude.{ℕ, ◌+◌, Bool, cond, ◌&&◌, ◌||◌, ◌≡◌, eqb}
 use Rattle.code.specs.Channel.{channel_one, channel_two, field_one, field_two}
 use Rattle.code.specs.Code.{needs_backspace}
 use Rattle.code.specs.Range.{within}

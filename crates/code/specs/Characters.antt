@@ -1,12 +1,10 @@
 -- The characters: the standard and special ones from 47 CFR 79.101 (g), the extended ones from CTA-608 as 01 lists
 -- them. The code points are 01's, which follows the crate. Some look alike: 27 is ’ U+2019, 12 26 ‘ U+2018,
 -- 12 29 ' U+0027, 12 2A — U+2014, 13 2E | U+007C, 13 37 │ U+2502.
-use Rattle.std.specs.Prelude.{None, Some}
-use Rattle.std.specs.Prelude.{ℕ, Bool, false, List, [], ◌∷◌, ◌++◌, map, eqb}
+use Rattle.std.specs.Prelude.{None, Some, ℕ, Bool, false, List, [], ◌∷◌, ◌++◌, map, eqb, Option}
 use Prim.Native.Char.{code}
 use Prim.Native.String as text
 use Prim.Native.String.{String}
-use Rattle.std.specs.Prelude.{Option}
 use Rattle.code.specs.Position.{first_place}
 
 -- the code points of a text

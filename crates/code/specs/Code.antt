@@ -1,9 +1,7 @@
 -- What else is known of a code, from 01: its length, whether the queue puts a space before it, its character, and the
 -- code of a character.
-use Rattle.std.specs.Prelude.{Result}
+use Rattle.std.specs.Prelude.{Result, ℕ, Bool, true, false, get_or, Option, None, Some}
 use Rattle.code.specs.declared.character.NoSuchCharacter.{NoSuchCharacter}
-use Rattle.std.specs.Prelude.{ℕ, Bool, true, false, get_or}
-use Rattle.std.specs.Prelude.{Option, None, Some}
 use Rattle.code.specs.Characters.{place_of, standard, symbols}
 use Rattle.code.specs.Letter.{letter_at, letter_place}
 use Rattle.code.specs.Outcome.{Outcome, answer, outcome, refused}

@@ -1,9 +1,7 @@
 -- Control codes: the miscellaneous commands and the tab offsets, in the order of 47 CFR 79.101 (i). The field that a
 -- code may name is from CTA-608 as 01 has it; refusal 4 is 01's.
-use Rattle.std.specs.Prelude.{Result}
+use Rattle.std.specs.Prelude.{Result, Option, Some, ℕ, Bool, cond, List, [], ◌∷◌, eqb, get_or}
 use Rattle.code.specs.declared.control.NoSuchTab.{NoSuchTab}
-use Rattle.std.specs.Prelude.{Option, Some}
-use Rattle.std.specs.Prelude.{ℕ, Bool, cond, List, [], ◌∷◌, eqb, get_or}
 use Rattle.code.specs.Outcome.{Outcome, answer, outcome, refused}
 use Rattle.code.specs.Range.{within}
 use Rattle.code.specs.declared.channel.Channel.{Channel}

@@ -2,8 +2,7 @@
 -- `event` has. It holds the definitions to the texts: the standard characters to ASCII, and at eleven bytes to 01; the symbols
 -- to the code points that the crate decides; the indents to 47 CFR 79.101 (h). proofs/KnownCodes.antt holds the definitions
 -- against these, and the refusal numbers against 01's.
-use Rattle.std.specs.Prelude.{None, Option, Some}
-use Rattle.std.specs.Prelude.{ℕ, zero, suc, Bool, false, ◌||◌, List, [], ◌∷◌, ◌++◌, map, eqb}
+use Rattle.std.specs.Prelude.{None, Option, Some, ℕ, zero, suc, Bool, false, ◌||◌, List, [], ◌∷◌, ◌++◌, map, eqb}
 use Rattle.code.specs.Code.{char_of}
 use Rattle.code.specs.Pair.{pair, plus}
 use Rattle.code.specs.Read.{control_code_of, single}

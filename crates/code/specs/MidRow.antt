@@ -1,6 +1,5 @@
 -- Mid-row codes, from 47 CFR 79.101 (h): seven colours, then italics, each with and without an underline.
-use Rattle.std.specs.Prelude.{ℕ, Bool, true, false, cond, ltb}
-use Rattle.std.specs.Prelude.{Option, None, Some}
+use Rattle.std.specs.Prelude.{ℕ, Bool, true, false, cond, ltb, Option, None, Some}
 use Rattle.code.specs.Color.{color_at, color_number}
 use Rattle.code.specs.declared.color.Color.{Color}
 use Rattle.code.specs.declared.midrow.MidRow.{MidRow}

@@ -1,9 +1,8 @@
 -- Codes by the names that they have here, each with its two stripped bytes, which are channel one's: commands, tabs, the
 -- rows and the columns of characters. From 47 CFR 79.101, and for extended characters from CTA-608. Whoever exchanges two
 -- names in a definition and in its code meets this list. proofs/NamedCodes.antt reads and writes them.
-use Rattle.std.specs.Prelude.{None, Option, Some}
+use Rattle.std.specs.Prelude.{None, Option, Some, ℕ, List, [], ◌∷◌, ◌++◌}
 use Rattle.code.specs.declared.channel.Field.{Field}
-use Rattle.std.specs.Prelude.{ℕ, List, [], ◌∷◌, ◌++◌}
 use Rattle.code.specs.Channel.{channel_one, field_one}
 use Rattle.code.specs.Pair.{pair}
 use Rattle.code.specs.Parity.{with_parity}

@@ -1,6 +1,5 @@
 -- The first place of a list that passes a test, counted from 0: the port's own words.
-use Rattle.std.specs.Prelude.{ℕ, zero, suc, Bool, cond, List, [], ◌∷◌, eqb}
-use Rattle.std.specs.Prelude.{Option, None, Some}
+use Rattle.std.specs.Prelude.{ℕ, zero, suc, Bool, cond, List, [], ◌∷◌, eqb, Option, None, Some}
 
 abbrev pub later : Option ℕ → Option ℕ
 later None = None

@@ -1,10 +1,8 @@
 -- Preamble address codes, from 47 CFR 79.101 (d) and (h): fifteen rows, and sixteen styles with and without an
 -- underline. That rows are counted from 0, and refusals 3 and 8, are 01's.
-use Rattle.std.specs.Prelude.{Result}
+use Rattle.std.specs.Prelude.{Result, ℕ, ◌+◌, ◌-◌, ◌/◌, ◌%◌, Bool, true, false, cond, ◌&&◌, List, [], ◌∷◌, eqb, leb, ltb, get_or, Option, None, Some}
 use Rattle.code.specs.declared.preamble.NoSuchIndent.{NoSuchIndent}
 use Rattle.code.specs.declared.preamble.NoSuchRow.{NoSuchRow}
-use Rattle.std.specs.Prelude.{ℕ, ◌+◌, ◌-◌, ◌/◌, ◌%◌, Bool, true, false, cond, ◌&&◌, List, [], ◌∷◌, eqb, leb, ltb, get_or}
-use Rattle.std.specs.Prelude.{Option, None, Some}
 use Rattle.code.specs.Color.{color_at, color_number}
 use Rattle.code.specs.Outcome.{Outcome, answer, outcome, refused}
 use Rattle.code.specs.Pair.{pair}

@@ -1,11 +1,9 @@
 -- What a pair means. From 47 CFR 79.101 (g), (h), (i): characters, control codes, the channel bit. From CTA-608 as 01
 -- has it: extended characters and the field. From 01: `Unknown`, and refusal 1, which follows the crate against (j).
 use Rattle.std.specs.Option.{unwrap_or}
-use Rattle.std.specs.Prelude.{Result}
+use Rattle.std.specs.Prelude.{Result, ℕ, ◌+◌, ◌-◌, ◌/◌, ◌%◌, Bool, cond, ◌&&◌, eqb, leb, Option, None, Some}
 use Rattle.code.specs.declared.read.InvalidParity.{InvalidParity}
 use Rattle.code.specs.declared.channel.Field.{Field}
-use Rattle.std.specs.Prelude.{ℕ, ◌+◌, ◌-◌, ◌/◌, ◌%◌, Bool, cond, ◌&&◌, eqb, leb}
-use Rattle.std.specs.Prelude.{Option, None, Some}
 use Rattle.code.specs.Channel.{channel_one, channel_two, field_one, field_two}
 use Rattle.code.specs.Column.{column_at}
 use Rattle.code.specs.Control.{command_at, names_field, tab_of}

@@ -1,8 +1,7 @@
 -- What is written is read back: the laws from codes to a pair and back, in the port's own words over writing and reading.
 -- A control code, `Unknown` aside, keeps its channel and its control, and is read with the field that its bytes name; NUL
 -- and letters, two to a pair, stay as they were. proofs/ReadBack.antt proves them.
-use Rattle.std.specs.Prelude.{None, Option, Some}
-use Rattle.std.specs.Prelude.{Bool, true, false, ◌≡◌}
+use Rattle.std.specs.Prelude.{None, Option, Some, Bool, true, false, ◌≡◌}
 use Rattle.code.specs.Channel.{field_one}
 use Rattle.code.specs.Outcome.{answer}
 use Rattle.code.specs.Read.{is_command_pair, is_odd_pair, read_pair}

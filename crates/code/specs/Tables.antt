@@ -1,8 +1,7 @@
 -- The layout of the code's tables, in the port's own words; no public promise mentions it. An entry is one number, its
 -- bytes above the low sixteen bits and its code point in them. `proofs/Meaning` and `proofs/TableRules` tie it to the
 -- definitions of `Read`, `Write` and `Characters`.
-use Rattle.std.specs.Prelude.{ℕ, suc, ◌+◌, ◌*◌, ◌-◌, ◌/◌, ◌%◌, cond, List, [], ◌∷◌, ◌++◌, map, eqb, ltb, get_or, replicate}
-use Rattle.std.specs.Prelude.{Option, None, Some}
+use Rattle.std.specs.Prelude.{ℕ, suc, ◌+◌, ◌*◌, ◌-◌, ◌/◌, ◌%◌, cond, List, [], ◌∷◌, ◌++◌, map, eqb, ltb, get_or, replicate, Option, None, Some}
 use Rattle.code.specs.Characters.{standard, symbols, special, spanish, french, portuguese, german}
 use Rattle.code.specs.Control.{command_at, tab_of}
 use Rattle.code.specs.Letter.{letter_at}

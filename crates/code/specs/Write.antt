@@ -1,12 +1,10 @@
 -- The pair that a code is written as. From 47 CFR 79.101 (g), (h), (i): the bytes of characters and control codes. From
 -- CTA-608 as 01 has it: extended characters and the field. From 01: `Unknown`, lengths, refusals 2 and 3.
-use Rattle.std.specs.Prelude.{Result}
+use Rattle.std.specs.Prelude.{Result, None, Option, Some, ℕ, ◌+◌, ◌*◌, ◌/◌, ◌%◌, Bool, true, false, cond, ◌&&◌, not, eqb, ltb}
 use Rattle.code.specs.declared.write.WriteError.{WriteError}
 use Rattle.code.specs.declared.write.WriteError.TheVariants.{UnknownByte, NoSuchRow}
 use Rattle.code.specs.declared.preamble.NoSuchRow as row
-use Rattle.std.specs.Prelude.{None, Option, Some}
 use Rattle.code.specs.declared.channel.Field.{Field}
-use Rattle.std.specs.Prelude.{ℕ, ◌+◌, ◌*◌, ◌/◌, ◌%◌, Bool, true, false, cond, ◌&&◌, not, eqb, ltb}
 use Rattle.code.specs.Column.{column_number}
 use Rattle.code.specs.Control.{command_number, names_field, tab_number}
 use Rattle.code.specs.Letter.{letter_place}

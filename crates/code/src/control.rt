@@ -1,8 +1,7 @@
 // Control codes: what their two bytes mean, channel and field aside.
 ghost use Rattle.std.specs.Prelude.{◌≡◌, ◌<◌};
 ghost use Rattle.code.specs.Number.{numbered};
-ghost use Rattle.code.specs.Control.{command_at, command_number, tab_number, tab_offset, tab_offset_outcome};
-ghost use Rattle.code.specs.Control.{names_field, control_code, channel_in, field_in, control_in};
+ghost use Rattle.code.specs.Control.{command_at, command_number, tab_number, tab_offset, tab_offset_outcome, names_field, control_code, channel_in, field_in, control_in};
 
 use crate::channel::{Channel, Field};
 use crate::midrow::MidRow;

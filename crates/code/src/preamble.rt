@@ -1,8 +1,7 @@
 // Preamble address codes: where a row of captions starts and what it looks like.
 ghost use Rattle.std.specs.Prelude.{◌≡◌, ◌<◌};
 ghost use Rattle.code.specs.Number.{numbered};
-ghost use Rattle.code.specs.Preamble.{style_at, style_of, color_type, color_of_style, indent_in, from_indent, from_indent_outcome};
-ghost use Rattle.code.specs.Preamble.{new_preamble, new_preamble_outcome, row_in, column_in, type_in, underline_in, italics_in, color_in_row};
+ghost use Rattle.code.specs.Preamble.{style_at, style_of, color_type, color_of_style, indent_in, from_indent, from_indent_outcome, new_preamble, new_preamble_outcome, row_in, column_in, type_in, underline_in, italics_in, color_in_row};
 
 use crate::color::Color;
 use crate::number::NoSuchNumber;

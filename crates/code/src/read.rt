@@ -1,10 +1,9 @@
 // Reading a pair: what was received becomes a command, or two single codes.
-ghost use Rattle.std.specs.Prelude.{◌≡◌, ◌≤◌, ◌<◌, ◌%◌};
+ghost use Rattle.std.specs.Prelude.{◌≡◌, ◌≤◌, ◌<◌, ◌%◌, ◌/◌};
 ghost use Rattle.code.specs.Read.{read_pair, from_data_outcome, single, channel_of, control_code_of, field_of, without_field, meaning, symbol_in};
 ghost use Rattle.code.specs.Tables.{first_row_at, tab_in};
 ghost use Rattle.code.specs.Control.{command_at};
 ghost use Rattle.code.specs.Preamble.{style_at};
-ghost use Rattle.std.specs.Prelude.{◌/◌};
 
 use crate::channel::{Channel, Field};
 use crate::code::Code;

@@ -1,11 +1,8 @@
 // Writing a code into a pair.
 ghost use Rattle.std.specs.Prelude.{◌≡◌, ◌<◌};
 ghost use Rattle.code.specs.declared.write.WriteError.TheVariants.{NoSuchRow as refused_row};
-ghost use Rattle.code.specs.Write.{write_code, written_outcome, as_command, on_line, with_field, with_channel};
-ghost use Rattle.code.specs.Write.{in_domain, control_in_domain, domain_outcome};
+ghost use Rattle.code.specs.Write.{write_code, written_outcome, as_command, on_line, with_field, with_channel, in_domain, control_in_domain, domain_outcome, control_bytes, bytes_outcome, mid_row_bytes, symbol_bytes, command_bytes, tab_bytes, preamble_bytes, is_seven_bits, of_seven_bits, row_bytes, row_bytes_outcome, seven_bits_outcome};
 ghost use Rattle.code.specs.Symbol.{symbol_base};
-ghost use Rattle.code.specs.Write.{control_bytes, bytes_outcome, mid_row_bytes, symbol_bytes, command_bytes, tab_bytes, preamble_bytes};
-ghost use Rattle.code.specs.Write.{is_seven_bits, of_seven_bits, row_bytes, row_bytes_outcome, seven_bits_outcome};
 
 use crate::channel::{Channel, Field};
 use crate::code::Code;

@@ -3,11 +3,11 @@
 use mathlib.Core.Path.{◌≡◌, refl, ap, sym}
 use Prim.Native.Nat.{ℕ}
 use native.Mathlib.Omega.{arith}
-use Rattle.std.specs.Prelude.{Result, Ok, Err}
+use Rattle.std.specs.Prelude.{Ok, Err}
 use Rattle.code.proofs.OneAnswer.{Injective, outcome_injective}
 use Rattle.code.specs.declared.code.Code.{Code}
 use Rattle.event.specs.Id.{from_value_outcome}
-use Rattle.event.specs.IntoCode.{Turned, codes, into_code_outcome, turned_down}
+use Rattle.event.specs.IntoCode.{codes, into_code_outcome, turned_down}
 use Rattle.event.specs.declared.into_code.IntoCodeError.{IntoCodeError}
 use Rattle.event.specs.declared.into_code.IntoCodeError.TheVariants as into
 

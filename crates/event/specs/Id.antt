@@ -1,7 +1,6 @@
 -- The caption services and refusal 6, from 01: 1 and 2 are channels one and two of field one, 3 and 4 of field two.
-use Rattle.std.specs.Prelude.{Result}
+use Rattle.std.specs.Prelude.{Result, ℕ, cond, ℤ, pos, negsuc, eqb}
 use Rattle.event.specs.declared.id.NoSuchId.{NoSuchId}
-use Rattle.std.specs.Prelude.{ℕ, cond, ℤ, pos, negsuc, eqb}
 use Rattle.code.specs.Channel.{channel_one, channel_two, field_one, field_two}
 use Rattle.code.specs.Outcome.{Outcome, answer, outcome, refused}
 use Rattle.code.specs.Range.{within}

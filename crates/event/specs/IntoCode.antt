@@ -2,11 +2,9 @@
 -- codes of two characters, NUL for one that is absent. The refusals are 01's: 3 for a row above 14, 4 for a tab count
 -- other than 1, 2, 3, and 5 for a character that no code has, the first looked up before the second. A refusal gives no
 -- code at all.
-use Rattle.std.specs.Prelude.{Result, Ok, Err}
+use Rattle.std.specs.Prelude.{Result, Ok, Err, None, Option, Some, ℕ}
 use Rattle.event.specs.declared.into_code.IntoCodeError.{IntoCodeError}
 use Rattle.event.specs.declared.into_code.IntoCodeError.TheVariants.{NoSuchRow, NoSuchTab, NoSuchFirst, NoSuchSecond}
-use Rattle.std.specs.Prelude.{None, Option, Some}
-use Rattle.std.specs.Prelude.{ℕ}
 use Rattle.code.specs.Code.{from_char}
 use Rattle.code.specs.Control.{control_code, tab_offset}
 use Rattle.code.specs.Outcome.{Outcome, answer, refused}

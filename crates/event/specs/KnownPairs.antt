@@ -3,8 +3,7 @@
 -- definitions to bytes: whoever exchanges two events, rows, styles or modes in a definition and in its code meets this
 -- list. Commands without an event are in `KnownPairs` of `receiver`. `written_as_known` in proofs/KnownPairs.antt goes from
 -- the events to the pairs; the crate `receiver` goes back.
-use Rattle.std.specs.Prelude.{None, Option, Some}
-use Rattle.std.specs.Prelude.{ℕ, Bool, true, false, List, [], ◌∷◌, ◌++◌}
+use Rattle.std.specs.Prelude.{None, Option, Some, ℕ, Bool, true, false, List, [], ◌∷◌, ◌++◌}
 use Rattle.code.specs.Channel.{channel_one, field_one}
 use Rattle.code.specs.MidRow.{colored, italic}
 use Rattle.code.specs.Outcome.{Outcome, refused}

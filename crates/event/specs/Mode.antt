@@ -1,8 +1,7 @@
 -- The presentation modes and the commands that begin them, from 47 CFR 79.101 (f): resume caption loading begins
 -- pop-on, resume direct captioning paint-on, and the three roll-up commands windows of two, three and four rows. End of
 -- caption puts a receiver into pop-on too; that it begins no mode here follows the crate.
-use Rattle.std.specs.Prelude.{ℕ, Bool, true, false}
-use Rattle.std.specs.Prelude.{Option, None, Some}
+use Rattle.std.specs.Prelude.{ℕ, Bool, true, false, Option, None, Some}
 use Rattle.code.specs.declared.control.Command.{Command}
 use Rattle.code.specs.declared.control.Command.TheVariants as command
 use Rattle.event.specs.declared.mode.Mode.{Mode}

@@ -1,7 +1,6 @@
 // An event turned into the codes that encode it.
 ghost use Rattle.std.specs.Prelude.{◌≡◌};
-ghost use Rattle.event.specs.IntoCode.{codes, codes_of, into_code_outcome, text_codes, preamble_codes, alone, command_alone};
-ghost use Rattle.event.specs.IntoCode.{character_code};
+ghost use Rattle.event.specs.IntoCode.{codes, codes_of, into_code_outcome, text_codes, preamble_codes, alone, command_alone, character_code};
 ghost use Rattle.code.specs.Code.{from_char_outcome};
 ghost use Rattle.event.specs.declared.into_code.IntoCodeError.TheVariants.{NoSuchTab as no_such_tab};
 

@@ -1,7 +1,6 @@
 -- Captions with the extended data between them, from CTA-608's rules on extended data as 02 has them (T-01), over a map from
 -- class to unfinished packet. What a caption pair does is the receiver's own step.
-use Rattle.std.specs.Prelude.{ℕ, eqb, leb, length, Bool, cond, false, List, [], ◌++◌}
-use Rattle.std.specs.Prelude.{Option, None, Some}
+use Rattle.std.specs.Prelude.{ℕ, eqb, leb, length, Bool, cond, false, List, [], ◌++◌, Option, None, Some}
 use Rattle.code.specs.Outcome.{Outcome, answer, refused}
 use Rattle.code.specs.Parity.{stripped}
 use Rattle.code.specs.Read.{is_odd_pair}

@@ -1,7 +1,6 @@
 -- When a pair is refused, by which number, and what it leaves, in the port's own words, for the laws. 1 and 13 leave everything as
 -- it was; 14 and 15 drop the packet of the class that runs, and leave the rest.
-use Rattle.std.specs.Prelude.{ℕ, ◌<◌, length, false, ◌++◌, ◌≡◌}
-use Rattle.std.specs.Prelude.{Option, None, Some}
+use Rattle.std.specs.Prelude.{ℕ, ◌<◌, length, false, ◌++◌, ◌≡◌, Option, None, Some}
 use Rattle.code.specs.Outcome.{answer, refused}
 use Rattle.code.specs.Read.{is_odd_pair}
 use Rattle.code.specs.declared.pair.Pair.{Pair}

@@ -1,6 +1,5 @@
 -- What is reported of packets, and what becomes of one with a pair, for the laws. The port's own words.
-use Rattle.std.specs.Prelude.{ℕ, ◌+◌, ◌<◌, ◌≤◌, length, Bool, cond, true, List, [], ◌++◌, ◌∷◌, ◌≡◌}
-use Rattle.std.specs.Prelude.{Option, None, Some}
+use Rattle.std.specs.Prelude.{ℕ, ◌+◌, ◌<◌, ◌≤◌, length, Bool, cond, true, List, [], ◌++◌, ◌∷◌, ◌≡◌, Option, None, Some}
 use Rattle.code.specs.Outcome.{Outcome, answer, refused}
 use Rattle.code.specs.declared.pair.Pair.{Pair}
 use Rattle.extended.specs.Extended.{Reader, Report, event, nothing, packet, same_class}

@@ -1,7 +1,6 @@
 -- How a state keeps a reader: seven packets, the contents of each the first bytes of 32. The port's own words; what a pair does
 -- is said in `Extended`, and here which record that leaves.
-use Rattle.std.specs.Prelude.{ℕ, ◌+◌, ◌-◌, min, eqb, leb, get_or, length, replicate, set, take, Bool, cond, false, List, [], ◌∷◌}
-use Rattle.std.specs.Prelude.{Option, None, Some, Result, Ok, Err}
+use Rattle.std.specs.Prelude.{ℕ, ◌+◌, ◌-◌, min, eqb, leb, get_or, length, replicate, set, take, Bool, cond, false, List, [], ◌∷◌, Option, None, Some, Result}
 use Rattle.code.specs.Outcome.{Outcome, answer, outcome, refused}
 use Rattle.code.specs.Parity.{stripped}
 use Rattle.code.specs.Read.{is_odd_pair}

@@ -1,7 +1,6 @@
 -- Streams worked out by hand from 02, each read from the beginning or from an open title of thirty bytes, with what every pair of it
 -- gives. A pair is written by its two bytes without parity. The port's own cases.
-use Rattle.std.specs.Prelude.{ℕ, replicate, false, List, [], ◌++◌, ◌∷◌}
-use Rattle.std.specs.Prelude.{Some}
+use Rattle.std.specs.Prelude.{ℕ, replicate, false, List, [], ◌++◌, ◌∷◌, Some}
 use Rattle.code.specs.Channel.{channel_one}
 use Rattle.code.specs.Characters.{points}
 use Rattle.code.specs.Outcome.{Outcome, answer, refused}

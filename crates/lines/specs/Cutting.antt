@@ -1,7 +1,6 @@
 -- The listing of a stream that comes in pieces of any size and goes into outputs of any size: what is not taken is
 -- offered again, and what was not written waits. The port's own words.
-use Rattle.std.specs.Prelude.{Option, None, Some}
-use Rattle.std.specs.Prelude.{ℕ, true, cond, List, [], ◌∷◌, ◌++◌, ◌⊎◌, ◌≡◌, drop, take}
+use Rattle.std.specs.Prelude.{Option, None, Some, ℕ, true, cond, List, [], ◌∷◌, ◌++◌, ◌⊎◌, ◌≡◌, drop, take}
 use Rattle.lines.specs.Line.{pending}
 use Rattle.lines.specs.Listing.{list_from}
 use Rattle.lines.specs.Pieces.{Piece, ended_listing, piece_of}

@@ -1,7 +1,6 @@
 -- The listing: raw bytes to text, one equation, from 01's section "The listing". 10 before 9: at the limit of pairs one
 -- byte more is refused 10, and what comes after it is not read.
-use Rattle.std.specs.Prelude.{ℕ, ◌+◌, cond, List, [], ◌∷◌, ◌++◌, leb}
-use Rattle.std.specs.Prelude.{Option}
+use Rattle.std.specs.Prelude.{ℕ, ◌+◌, cond, List, [], ◌∷◌, ◌++◌, leb, Option}
 use Rattle.code.specs.Outcome.{Outcome, answer, refused}
 use Rattle.code.specs.Pair.{pair}
 use Rattle.event.specs.declared.event.Cea608.{Cea608}

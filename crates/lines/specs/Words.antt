@@ -1,6 +1,5 @@
 -- The words of the listing and its lines, from 01's section "The listing". A line begins with the number of its pair.
-use Rattle.std.specs.Prelude.{ℕ, ◌+◌, ◌/◌, ◌%◌, Bool, true, false, cond, List, [], ◌∷◌, ◌++◌, leb, ltb}
-use Rattle.std.specs.Prelude.{Option, None, Some}
+use Rattle.std.specs.Prelude.{ℕ, ◌+◌, ◌/◌, ◌%◌, Bool, true, false, cond, List, [], ◌∷◌, ◌++◌, leb, ltb, Option, None, Some}
 use Rattle.code.specs.Channel.{channel_id}
 use Rattle.code.specs.Characters.{points}
 use Rattle.code.specs.MidRow.{is_underlined, mid_row_number}

@@ -43,7 +43,7 @@ from_the_start output text fits =
 abbrev answered : Reached → Read
 answered x = (x.0, x.2.0, x.1, x.2.1)
 
-pub as_promised : (input : List ℕ) (l : PacketListing) (output : List ℕ) {taken written : ℕ} {m : PacketListing} {after : List ℕ} → ◌≡◌ {A = Reached} (taken, m, (written, after)) (comes_to input 0 l (0, output)) → (taken, written, m, after) ≡ read_packets l input output
+as_promised : (input : List ℕ) (l : PacketListing) (output : List ℕ) {taken written : ℕ} {m : PacketListing} {after : List ℕ} → ◌≡◌ {A = Reached} (taken, m, (written, after)) (comes_to input 0 l (0, output)) → (taken, written, m, after) ≡ read_packets l input output
 unfolding read_packets
 as_promised input l output e =
     let whole : length output - 0 ≡ length output = omega arith in
@@ -63,7 +63,7 @@ pub at_the_end : (input : List ℕ) (taken : ℕ) (l : PacketListing) (s : Place
 at_the_end input taken l s over =
     sym (stays_at taken s l _ (ap (λ (i : List ℕ). piece_of l i (length s.1 - s.0)) (drop_of_length-le input over)))
 
-pub where_it_stops : (input : List ℕ) (taken : ℕ) (l : PacketListing) (s : Placed) → taken < length input → stops l (length s.1 - s.0) ≡ true → (taken, l, s) ≡ comes_to input taken l s
+where_it_stops : (input : List ℕ) (taken : ℕ) (l : PacketListing) (s : Placed) → taken < length input → stops l (length s.1 - s.0) ≡ true → (taken, l, s) ≡ comes_to input taken l s
 where_it_stops input taken l s more stop =
     let room = length s.1 - s.0 in
     let a = get_or input taken 0 in

@@ -1,7 +1,6 @@
 -- The same text in pieces, in the port's own words: what a byte and the end do to a state, and how much is taken. Any state
 -- may be handed in; one that no call leaves goes on as it stands.
-use Rattle.std.specs.Prelude.{Option, None, Some}
-use Rattle.std.specs.Prelude.{ℕ, ◌+◌, ◌-◌, leb, ltb, length, Bool, true, false, cond, List, [], ◌∷◌, ◌++◌, ◌≡◌}
+use Rattle.std.specs.Prelude.{Option, None, Some, ℕ, ◌+◌, ◌-◌, leb, ltb, length, Bool, true, false, cond, List, [], ◌∷◌, ◌++◌, ◌≡◌}
 use Rattle.code.specs.Outcome.{Outcome, answer, refused}
 use Rattle.code.specs.Pair.{pair}
 use Rattle.extended.specs.Extended.{Report, event, nothing, packet}

@@ -45,7 +45,7 @@ by_verdict (code.Control c) full = by_number _ (queueable (code.Control c)) full
 by_verdict (code.Letter l) full = by_number _ (queueable (code.Letter l)) full
 by_verdict (code.Unknown b) full = by_number _ (queueable (code.Unknown b)) full
 
-pub tested_entry : (q : Queue) (c : Code) (v : Outcome (Option ℕ)) → well_formed q ≡ true → v ≡ numbered c → entry_by v (is_full q.waiting) ≡ entry_in q c
+tested_entry : (q : Queue) (c : Code) (v : Outcome (Option ℕ)) → well_formed q ≡ true → v ≡ numbered c → entry_by v (is_full q.waiting) ≡ entry_in q c
 unfolding entry_for admit
 tested_entry q c v e verdict =
     rw (sym (formed_by_the_rest q) ∙ e) (ap (λ (x : Outcome (Option ℕ)). entry_by x (is_full q.waiting)) verdict ∙ by_verdict c (is_full q.waiting))
@@ -93,7 +93,7 @@ leaves_as true m (answer false) q = refl
 leaves_as true m (refused k) q = refl
 leaves_as false m o q = refl
 
-pub pushed_by_lem : (o : Outcome (Option ℕ)) (q : Queue) (c : Code) → o ≡ entry_in q c → leaves o q ≡ push_ring q c
+pushed_by_lem : (o : Outcome (Option ℕ)) (q : Queue) (c : Code) → o ≡ entry_in q c → leaves o q ≡ push_ring q c
 unfolding entry_for push_ring
 pushed_by_lem o q c e =
     ap (λ (x : Outcome (Option ℕ)). leaves x q) e

@@ -1,10 +1,9 @@
 -- The numbers of the ring: every number stands for a code that may wait, the number of such a code gives that code back, and
 -- a code's length, its bytes and whether it needs a backspace are told by its number alone.
 -- Assumes nothing.
-use Rattle.std.specs.Prelude.{None}
+use Rattle.std.specs.Prelude.{None, Option, option_map, Some}
 use Rattle.code.specs.declared.channel.Field.{Field}
 use mathlib.Core.Bool.{Bool, true, false, cond, ◌&&◌, ◌||◌, not, true≢false}
-use Rattle.std.specs.Prelude.{Option, option_map, Some}
 use mathlib.Core.Path.{◌≡◌, refl, ap, ap₂, sym, ◌∙◌}
 use Prim.Native.Nat.{ℕ, ◌+◌, ◌*◌, ◌-◌, ◌/◌, ◌%◌, ◌≤◌, ◌<◌}
 use native.Mathlib.Omega.{arith}

@@ -12,13 +12,7 @@ use lib.Seq.{get_or-set_other, get_or-set_same}
 use Rattle.code.specs.declared.code.Code.{Code}
 use Rattle.code.specs.declared.code.Code.TheVariants as code
 use Rattle.queue.specs.Number.{code_of}
-use Rattle.queue.specs.Ring.{code_at_place, codes_from, number_at}
-
--- the number at a place that is one of the ring's
-pub place_is : (places : List ℕ) (at : ℕ) → at < 64 → get_or places at 0 ≡ number_at places at
-place_is places at less =
-    let here : at ≡ at % 64 = omega arith in
-    ap (λ (k : ℕ). get_or places k 0) here
+use Rattle.queue.specs.Ring.{code_at_place, codes_from}
 
 pub how_many_lem : (places : List ℕ) (at n : ℕ) → length (codes_from places at n) ≡ n
 how_many_lem places at zero = refl

@@ -1,7 +1,6 @@
 -- What the functions inside `push` find, as outcomes of the definitions, in the port's own words: the number of a code that
 -- may be queued, and the number that a push stores; NUL has none, and none is stored; or the refusal.
-use Rattle.std.specs.Prelude.{ℕ, Bool, true, false, cond}
-use Rattle.std.specs.Prelude.{Option, None, Some, Result, Ok, Err}
+use Rattle.std.specs.Prelude.{ℕ, Bool, true, false, cond, Option, None, Some, Result, Ok, Err}
 use Rattle.code.specs.Outcome.{Outcome, answer, outcome, refused}
 use Rattle.code.specs.declared.code.Code.{Code}
 use Rattle.queue.specs.Number.{number_of}

@@ -1,8 +1,7 @@
 -- What a pair of the queue is made of, from 01's section "Queue and sender": the codes that its pop took, and what is in
 -- the queue after it; and what a pop takes by what was held before it. And which of these pairs are to be command pairs, by
 -- T-04: those that were made of a two-byte code. Half a command is the one exception.
-use Rattle.std.specs.Prelude.{ℕ, Bool, true, false, cond, ◌||◌, not, List, [], ◌∷◌, ◌≡◌}
-use Rattle.std.specs.Prelude.{Option, None, Some}
+use Rattle.std.specs.Prelude.{ℕ, Bool, true, false, cond, ◌||◌, not, List, [], ◌∷◌, ◌≡◌, Option, None, Some}
 use Rattle.code.specs.Code.{byte_len, needs_backspace}
 use Rattle.code.specs.Outcome.{Outcome, answer, refused}
 use Rattle.code.specs.Read.{is_command}

@@ -3,8 +3,7 @@
 -- clear: 14 and 13 its field, 12 its channel, 11 whether it is an `Unknown`, 10 to 7 its first byte less 10, 6 to 0 its
 -- second byte. Of a single code, bit 15 set: 7 whether it is an `Unknown`, 6 to 0 its byte.
 use Rattle.code.specs.declared.channel.Field.{Field}
-use Rattle.std.specs.Prelude.{ℕ, ◌+◌, ◌*◌, ◌-◌, ◌/◌, ◌%◌, cond, ◌&&◌, eqb, leb}
-use Rattle.std.specs.Prelude.{Option, None, Some}
+use Rattle.std.specs.Prelude.{ℕ, ◌+◌, ◌*◌, ◌-◌, ◌/◌, ◌%◌, cond, ◌&&◌, eqb, leb, Option, None, Some}
 use Rattle.code.specs.Channel.{channel_one, channel_two, field_one, field_two}
 use Rattle.code.specs.Letter.{letter_at, letter_place}
 use Rattle.code.specs.Outcome.{Outcome, answer, refused}

@@ -1,7 +1,6 @@
 -- The queue as a list: the codes that wait, first in first out, and at most one that is held. Written from 01's section
 -- "Queue and sender" and its refusal 7; what may be queued is in `Queueable`. 47 CFR 79.101 has no queue.
-use Rattle.std.specs.Prelude.{ℕ, ◌+◌, Bool, true, false, cond, ◌&&◌, not, List, [], ◌∷◌, ◌++◌, eqb, leb, length}
-use Rattle.std.specs.Prelude.{Option, None, Some}
+use Rattle.std.specs.Prelude.{ℕ, ◌+◌, Bool, true, false, cond, ◌&&◌, not, List, [], ◌∷◌, ◌++◌, eqb, leb, length, Option, None, Some}
 use Rattle.code.specs.Code.{byte_len, needs_backspace}
 use Rattle.code.specs.Outcome.{Outcome, answer, refused}
 use Rattle.code.specs.Pair.{pair}

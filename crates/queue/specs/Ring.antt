@@ -1,7 +1,6 @@
 -- The ring: which list it stands for, which states are well formed (01's refusal 12), and the record that each call
 -- leaves. The answers are the list's, from `Queue`; where the codes lie is in the port's own words.
-use Rattle.std.specs.Prelude.{ℕ, zero, suc, ◌+◌, ◌-◌, ◌%◌, Bool, true, cond, ◌&&◌, List, [], ◌∷◌, leb, ltb, get_or, length, replicate, set}
-use Rattle.std.specs.Prelude.{Option, None, Some, Result, Ok, Err}
+use Rattle.std.specs.Prelude.{ℕ, zero, suc, ◌+◌, ◌-◌, ◌%◌, Bool, true, cond, ◌&&◌, List, [], ◌∷◌, leb, ltb, get_or, length, replicate, set, Option, None, Some, Result}
 use Rattle.code.specs.Outcome.{Outcome, answer, outcome, refused}
 use Rattle.code.specs.declared.code.Code.{Code}
 use Rattle.code.specs.declared.pair.Pair.{Pair}

@@ -1,7 +1,6 @@
 -- What a pop does to the ring, in the port's own words: the pair that goes out, how many places are freed, and what is
 -- held afterwards, by the numbers at the first two places alone. `Ring.pop_ring` is defined without it.
-use Rattle.std.specs.Prelude.{Option, None}
-use Rattle.std.specs.Prelude.{ℕ, zero, suc, ◌+◌, ◌-◌, ◌%◌, List, [], ◌∷◌, map, get_or, length}
+use Rattle.std.specs.Prelude.{Option, None, ℕ, zero, suc, ◌+◌, ◌-◌, ◌%◌, List, [], ◌∷◌, map, get_or, length}
 use Rattle.queue.specs.Number.{code_of}
 use Rattle.queue.specs.Queue.{Pop, pop, pop_command, pop_two, queued}
 use Rattle.queue.specs.Ring.{held_as, held_in, number_at}

@@ -1,8 +1,6 @@
 -- The events that codes encode. What a command does is from 47 CFR 79.101 (f) and (h); that alarms, flash, the text
 -- commands, `Unknown` and a symbol without a character give none is from 01.
-use Rattle.std.specs.Prelude.{ℕ}
-use Rattle.std.specs.Prelude.{false}
-use Rattle.std.specs.Prelude.{Option, None, Some, Result}
+use Rattle.std.specs.Prelude.{ℕ, false, Option, None, Some, Result}
 use Rattle.code.specs.Code.{char_of, control_needs_backspace, symbol_char}
 use Rattle.code.specs.Control.{tab_number}
 use Rattle.code.specs.Outcome.{Outcome, outcome}

@@ -1,8 +1,7 @@
 -- What else is known of pairs, beside those that `KnownPairs` of `event` has with their events: the commands and the symbol
 -- that have no event, the channel and the field that pairs leave, and the channel that text is for. From the tables of
 -- 47 CFR 79.101, and from 01.
-use Rattle.std.specs.Prelude.{None, Option, Some}
-use Rattle.std.specs.Prelude.{ℕ, List, [], ◌∷◌}
+use Rattle.std.specs.Prelude.{None, Option, Some, ℕ, List, [], ◌∷◌}
 use Rattle.code.specs.Channel.{channel_one, channel_two, field_one, field_two}
 use Rattle.code.specs.Column.{column_at}
 use Rattle.code.specs.Pair.{pair}

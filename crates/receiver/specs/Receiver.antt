@@ -1,11 +1,8 @@
 -- The receiver, from 01's section of that name. That a repeated control code acts once is 47 CFR 79.101 (i)(4)'s. Which
 -- copies act, what a corrupted pair leaves, and what text does to the wait for a repeat are 01's and the crate's.
-use Rattle.std.specs.Prelude.{Result}
+use Rattle.std.specs.Prelude.{Result, Some, Bool, false, cond, Option, None}
 use Rattle.code.specs.declared.read.InvalidParity.{InvalidParity}
-use Rattle.std.specs.Prelude.{Some}
 use Rattle.code.specs.declared.channel.Field.{Field}
-use Rattle.std.specs.Prelude.{Bool, false, cond}
-use Rattle.std.specs.Prelude.{Option, None}
 use Rattle.code.specs.Outcome.{Outcome, answer, refused}
 use Rattle.code.specs.Pair.{same_pair}
 use Rattle.code.specs.Read.{read_pair}

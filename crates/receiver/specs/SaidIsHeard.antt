@@ -2,9 +2,7 @@
 -- over the definitions of `IntoCode`, of writing and of the receiver. `SaidIsHeardLaw` is of every event that is no text,
 -- `TextIsHeardLaw` and `CharacterByCharacterLaw` of text, and `ReportedAgainLaw` of whatever a receiver has reported.
 -- proofs/ has a file for each: SaidIsHeard, TextIsHeard, ReportedAgain.
-use Rattle.std.specs.Prelude.{None, Option}
-use Rattle.std.specs.Prelude.{ℕ, true, false, ◌≡◌}
-use Rattle.std.specs.Prelude.{Some}
+use Rattle.std.specs.Prelude.{None, Option, ℕ, true, false, ◌≡◌, Some}
 use Rattle.code.specs.Code.{needs_backspace}
 use Rattle.code.specs.Outcome.{answer}
 use Rattle.code.specs.Read.{is_command_pair}

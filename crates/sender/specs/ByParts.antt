@@ -1,7 +1,6 @@
 -- Contracts of helpers inside the crate, in the port's own words: a send by the parts of a state, and the writer of pairs
 -- that the drain lends a part of the output to.
-use Rattle.std.specs.Prelude.{ℕ, ◌+◌, ◌-◌, ◌%◌, List, length}
-use Rattle.std.specs.Prelude.{Option}
+use Rattle.std.specs.Prelude.{ℕ, ◌+◌, ◌-◌, ◌%◌, List, length, Option}
 use Rattle.code.specs.declared.pair.Pair.{Pair}
 use Rattle.queue.specs.Ring.{number_at}
 use Rattle.queue.specs.Turn.{turn_of}

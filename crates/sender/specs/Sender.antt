@@ -1,7 +1,6 @@
 -- The sender's state: which lists it stands for, which states are well formed (01's refusal 12), and the state that each
 -- call leaves. The answers are the lists', from `Sending`.
-use Rattle.std.specs.Prelude.{ℕ, Bool, true, false, cond, ◌&&◌}
-use Rattle.std.specs.Prelude.{Option, None, Some, Result, Ok, Err}
+use Rattle.std.specs.Prelude.{ℕ, Bool, true, cond, ◌&&◌, Option, None, Some, Result}
 use Rattle.code.specs.Outcome.{Outcome, answer, outcome, refused}
 use Rattle.code.specs.Read.{is_command_pair, is_odd_pair}
 use Rattle.code.specs.declared.code.Code.{Code}

@@ -1,7 +1,6 @@
 -- The sender as lists: the queue, and what is to be repeated. From 01's section "Queue and sender". That a command is sent
 -- twice is 47 CFR 79.101 (i)(1)'s; that text is not, and when the repeat goes out, are 01's.
-use Rattle.std.specs.Prelude.{ℕ, zero, suc, Bool, true, false, cond, ◌&&◌, List, [], ◌∷◌, eqb}
-use Rattle.std.specs.Prelude.{Option, None, Some}
+use Rattle.std.specs.Prelude.{ℕ, zero, suc, Bool, true, false, cond, ◌&&◌, List, [], ◌∷◌, eqb, Option, None, Some}
 use Rattle.code.specs.Outcome.{Outcome}
 use Rattle.code.specs.Read.{is_command_pair}
 use Rattle.code.specs.declared.code.Code.{Code}

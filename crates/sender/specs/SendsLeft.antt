@@ -1,8 +1,7 @@
 -- How many sends are left, exactly, and how many of them a drain makes, from 01: a command goes out twice, and text once,
 -- or twice where half a command goes first in it; two single codes share a pair; and a command that needs a backspace has a space before it, in the pair of the single
 -- code before it if there is one.
-use Rattle.std.specs.Prelude.{ℕ, ◌+◌, ◌/◌, Bool, true, false, cond, List, [], ◌∷◌, leb, length, replicate}
-use Rattle.std.specs.Prelude.{Option, None, Some}
+use Rattle.std.specs.Prelude.{ℕ, ◌+◌, ◌/◌, Bool, true, false, cond, List, [], ◌∷◌, leb, length, replicate, Option, None, Some}
 use Rattle.code.specs.Channel.{channel_one}
 use Rattle.code.specs.Code.{needs_backspace}
 use Rattle.code.specs.Symbol.{symbol_at}
