@@ -1,5 +1,5 @@
 // The data channel and the field of a control code. Each has a type of its own, so that a channel is never taken for a
-// field.
+// field, as 01 names the form (docs/DECISIONS.md).
 ghost use Rattle.std.specs.Prelude.{◌≡◌};
 ghost use Rattle.code.specs.Channel.{channel_id, field_id};
 

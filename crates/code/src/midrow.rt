@@ -4,6 +4,7 @@ ghost use Rattle.code.specs.MidRow.{mid_row_at, mid_row_number, colored, italic,
 
 use crate::color::Color;
 
+// Italics are no absence of a colour, so that this is no option.
 #[derive(Clone, Copy)]
 pub enum MidRowColor {
     Color(Color),
@@ -71,7 +72,7 @@ impl MidRow {
         }
     }
 
-    // The mid-row code of a number below 8.
+    // The mid-row code of a number below 8. It needs the underline too, so that it is no `TryFrom`.
     pub(crate) fn at(n: u8, underline: bool) -> MidRow
         requires { n < 8 }
         ensures { result ≡ mid_row_at n underline }

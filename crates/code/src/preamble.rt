@@ -91,7 +91,8 @@ impl PreambleType {
         }
     }
 
-    // The style's number: 0 to 6 the colours, 7 white italics, 8 to 15 the indents.
+    // The style's number: 0 to 6 the colours, 7 white italics, 8 to 15 the indents. It runs over two enums, so that no cast
+    // gives it.
     pub fn style(self) -> u8
         ensures { result ≡ style_of self }
     {

@@ -21,6 +21,7 @@ pub enum SymbolRow {
     German,
 }
 
+// As `Letter`, over other rows: one type over both would need a trait of the rows with a law, longer than what it saves.
 #[derive(Clone, Copy)]
 pub struct Symbol {
     pub row: SymbolRow,

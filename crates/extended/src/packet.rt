@@ -8,14 +8,15 @@ use crate::class::Class;
 // A packet has at most so many content bytes.
 pub(crate) const MOST_CONTENTS: usize = 32;
 
-// The first `length` bytes are the contents; a length above 32 means all 32.
+// The first `length` bytes are the contents, in fixed memory; a length above 32 means all 32.
 #[derive(Clone, Copy)]
 pub struct Contents {
     pub length: u8,
     pub bytes: [u8; MOST_CONTENTS],
 }
 
-// The type is the second byte of the packet's start; where it is absent there is no packet.
+// The type is the second byte of the packet's start; where it is absent there is no packet. What stands beside it is a part of
+// the state all the same, which `replay` shows.
 #[derive(Clone, Copy)]
 pub struct Unfinished {
     pub packet_type: Option<u8>,

@@ -13,13 +13,14 @@ use event::Cea608;
 use receiver::Cea608State;
 
 // What runs: captions, after a command; or extended data of a class, after a start or a continuation that is not refused.
+// Captions are no absence of a class, so that this is no option.
 #[derive(Clone, Copy)]
 pub enum Running {
     Captions,
     Extended(Class),
 }
 
-// Any contents are a valid state. The packets are those of classes 1 to 7.
+// Any contents are a valid state. The packets are those of classes 1 to 7, in fixed memory.
 #[derive(Clone, Copy)]
 pub struct ExtendedState {
     pub captions: Cea608State,

@@ -7,7 +7,7 @@ use crate::put::Writer;
 // The bytes of a line's memory. No line is longer.
 pub(crate) const LINE_LENGTH: usize = 96;
 
-// What waits are the bytes from `at` up to `len`.
+// What waits are the bytes from `at` up to `len`. The memory is fixed: there is no heap.
 #[derive(Clone, Copy)]
 pub struct Line {
     pub bytes: [u8; LINE_LENGTH],

@@ -146,7 +146,7 @@ impl Listing {
         (between_pairs(receiver, pairs, refused), taken)
     }
 
-    // The listing after a whole pair, its line waiting.
+    // The listing after a whole pair, its line waiting. A state may have any count, so that the caller has tested it.
     pub(crate) fn after_pair(self, pair: Pair) -> Listing
         requires { self.pairs < most_pairs }
         ensures { result ≡ after_pair self (step self.receiver pair) }

@@ -145,7 +145,7 @@ pub(crate) fn put_event_line(out: &mut Writer, number: u32, event: Cea608)
     out.put_one(b'\n');
 }
 
-// The line of a refusal at the pair with this number.
+// The line of a refusal at the pair with this number. It takes any refusal's number, those of other crates too.
 pub fn put_refused_line(out: &mut Writer, number: u32, refusal: u32)
     ensures { Puts out.old (line number (refused_words refusal)) out.new }
 {

@@ -1,26 +1,21 @@
 -- The reading of a piece, one byte at a time. What it comes to from a state, with some taken and written, is the same before
 -- a byte and after it; where no byte is taken, it is what there is.
 -- Assumes nothing.
-use Rattle.std.specs.Prelude.{Option, Result}
-use Rattle.extended.specs.declared.state.ExtendedError.{ExtendedError}
-use Rattle.extended.specs.declared.state.Given.{Given}
 use Prim.Native.Nat.{ℕ, ◌+◌, ◌-◌, ◌≤◌, ◌<◌}
 use lib.ListN.{drop, drop_of_length-le, get_or, length}
 use lib.Seq.{drop-cons}
 use mathlib.Core.Bool.{Bool, true, false, cond}
-use mathlib.Core.List.{List, [], ◌∷◌, ◌++◌}
-use mathlib.Core.Path.{◌≡◌, refl, ap, ap₂, sym, ◌∙◌}
+use mathlib.Core.List.{List, ◌∷◌, ◌++◌}
+use mathlib.Core.Path.{◌≡◌, ap, ap₂, sym, ◌∙◌}
 use native.Mathlib.Numerals.{add-one}
 use native.Mathlib.Omega.{arith}
-use Rattle.extended.specs.State.{Step, given_outcome, received_outcome, report_of}
-use Rattle.extended.specs.declared.state.ExtendedState.{ExtendedState}
 use Rattle.lines.proofs.Puts.{all_places, put_parts, puts_length, same_bytes, taken_back}
 use Rattle.lines.specs.Put.{Placed, Puts, placed, put_all, room_of}
 use Rattle.lines.specs.declared.put.Writer.{Writer}
 use Rattle.packet_lines.proofs.Bounds.{a_byte_fits, the_end_fits}
 use Rattle.packet_lines.proofs.ProgressLemmas.{goes_on_lem, no_more_than_room}
-use Rattle.packet_lines.specs.Pieces.{Piece, Read, Says, after_byte, closed, counted, end_packets, ending, of_byte, of_end, of_pair, piece_of, read_as, read_packets, said_only, stays, stops}
-use Rattle.packet_lines.specs.Words.{last_line, line_of}
+use Rattle.packet_lines.specs.Pieces.{Piece, Read, Says, after_byte, closed, end_packets, ending, of_byte, of_end, piece_of, read_as, read_packets, said_only, stays, stops}
+use Rattle.packet_lines.specs.Words.{last_line}
 use Rattle.packet_lines.specs.declared.listing.PacketListing.{PacketListing}
 
 -- how many bytes were taken, the state, the place in the output and the output

@@ -137,7 +137,7 @@ impl PacketListing {
         self.closed(refused)
     }
 
-    // A whole pair.
+    // A whole pair. A state may have any count, so that the caller has tested it.
     pub(crate) fn after_pair(self, pair: Pair, out: &mut Writer) -> PacketListing
         requires { self.pairs < most_pairs }
         ensures { Says (of_pair self (step self.state pair)) out.old result out.new }

@@ -4,7 +4,8 @@ ghost use Rattle.std.specs.Prelude.{◌≡◌};
 ghost use Rattle.queue.specs.Ring.{fresh_ring};
 
 // The waiting codes stand from `start` on, and wrap around to place 0 at the end. The held code is a command that the
-// next pop sends, since the pair before it carried the single code or space that precedes it.
+// next pop sends, since the pair before it carried the single code or space that precedes it. The memory is fixed: there is no
+// heap.
 #[derive(Clone, Copy)]
 pub struct Queue {
     pub places: [u16; 64],

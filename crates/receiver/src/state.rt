@@ -6,7 +6,7 @@ use crate::heard::{event_of, text_event};
 use code::{Channel, Code, ControlCode, Field, InvalidParity, Pair};
 use event::Cea608;
 
-// The channel that text goes to, once a command has named one.
+// The channel that text goes to, once a command has named one. An enum of its own, as 01 names the form (docs/DECISIONS.md).
 #[derive(Clone, Copy)]
 pub enum LastChannel {
     Absent,

@@ -58,9 +58,8 @@ fn mid_row(m: MidRow) -> [u8; 16] {
 }
 
 fn from_indent(indent: u8) -> Answer {
-    let [style, color, there, columns] = to_bytes::preamble_type(PreambleType::from_indent(
-        indent,
-    )?);
+    let ty = PreambleType::from_indent(indent)?;
+    let [style, color, there, columns] = to_bytes::preamble_type(ty);
     Ok(padded(&[0, style, color, there, columns]))
 }
 

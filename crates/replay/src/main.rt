@@ -56,7 +56,7 @@ fn read_full(from: &mut Stdin, input: &mut [u8]) -> usize
     ensures { result ≤ length input.new }
 {
     let mut got = 0;
-    // A read gives as many bytes as there are at the time.
+    // A `while`, since a read gives as many bytes as there are at the time.
     while got < input.len() {
         match from.read(&mut input[got..]) {
             Ok(0) | Err(_) => break,

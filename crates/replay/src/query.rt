@@ -28,6 +28,7 @@ impl State {
         self.ask(asked).unwrap_or_else(Refusal::bytes)
     }
 
+    // The first byte of a query is its kind, in the format of docs/TESTING.md.
     fn ask(&mut self, asked: [u8; 16]) -> Answer {
         match asked[0] {
             0x00..=0x1F => code_query::answer(asked),

@@ -1,6 +1,5 @@
 // The queries of the queue. They ask one queue, which is kept from query to query: the sender's.
-use crate::from_bytes;
-use crate::from_bytes::bytes_at;
+use crate::from_bytes::{self, bytes_at};
 use crate::refusal::{Answer, NOT_A_QUERY};
 use crate::to_bytes::padded;
 use code::Pair;

@@ -30,6 +30,7 @@ impl Refusal {
         }
     }
 
+    // The answer that says it.
     pub(crate) fn bytes(self) -> [u8; 16] {
         let mut out = [0u8; 16];
         out[0] = self.number;

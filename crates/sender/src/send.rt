@@ -49,7 +49,7 @@ impl Sender {
         }
     }
 
-    // The sender after a step.
+    // The sender after a step. A pop of the queue would do the same, and copy the ring once more.
     pub(crate) fn moved(self, step: Step) -> Sender
         requires { (self.queue.start < 64) × (self.queue.waiting ≤ 64) × (step.freed ≤ self.queue.waiting) }
         ensures { result ≡ moved self step }
