@@ -4,7 +4,7 @@ ghost use Rattle.std.specs.Prelude.{◌≡◌};
 ghost use Rattle.code.specs.Channel.{channel_id, field_id};
 
 // The data channel within a field. `true` is channel one, as in the crate.
-#[derive(Clone, Copy)]
+#[derive(Clone, Copy, Debug, PartialEq, Eq)]
 pub struct Channel(pub bool);
 
 impl Channel {
@@ -22,7 +22,7 @@ impl Channel {
 }
 
 // The field of the picture. `true` is field one, as in the crate.
-#[derive(Clone, Copy)]
+#[derive(Clone, Copy, Debug, PartialEq, Eq)]
 pub struct Field(pub bool);
 
 impl Field {

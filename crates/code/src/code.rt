@@ -6,7 +6,7 @@ use crate::control::{Control, ControlCode};
 use crate::letter::Letter;
 use crate::symbol::SymbolRow;
 
-#[derive(Clone, Copy)]
+#[derive(Clone, Copy, Debug, PartialEq, Eq)]
 pub enum Code {
     // Padding: a receiver shows nothing.
     Nul,

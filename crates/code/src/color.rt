@@ -5,7 +5,7 @@ ghost use Rattle.code.specs.Color.{color_at, color_number};
 
 use crate::number::NoSuchNumber;
 
-#[derive(Clone, Copy)]
+#[derive(Clone, Copy, Debug, PartialEq, Eq)]
 pub enum Color {
     White,
     Green,

@@ -5,7 +5,7 @@ ghost use Rattle.code.specs.Column.{column_at, column_number};
 
 use crate::number::NoSuchNumber;
 
-#[derive(Clone, Copy)]
+#[derive(Clone, Copy, Debug, PartialEq, Eq)]
 pub enum Column {
     C0,
     C1,

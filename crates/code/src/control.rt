@@ -10,7 +10,7 @@ use crate::preamble::PreambleAddressCode;
 use crate::symbol::Symbol;
 
 // The miscellaneous control codes 14 20 to 14 2F, in their order.
-#[derive(Clone, Copy)]
+#[derive(Clone, Copy, Debug, PartialEq, Eq)]
 pub enum Command {
     // Pop-on: what follows is loaded out of sight.
     ResumeCaptionLoading,
@@ -47,14 +47,14 @@ pub enum Command {
 }
 
 // The tab offsets 17 21 to 17 23.
-#[derive(Clone, Copy)]
+#[derive(Clone, Copy, Debug, PartialEq, Eq)]
 pub enum Tab {
     TabOffset1 = 1,
     TabOffset2,
     TabOffset3,
 }
 
-#[derive(Clone, Copy)]
+#[derive(Clone, Copy, Debug, PartialEq, Eq)]
 pub enum Control {
     MidRow(MidRow),
     Symbol(Symbol),
@@ -69,7 +69,7 @@ pub enum Control {
 #[derive(Clone, Copy, Debug, PartialEq, Eq)]
 pub struct NoSuchTab;
 
-#[derive(Clone, Copy)]
+#[derive(Clone, Copy, Debug, PartialEq, Eq)]
 pub struct ControlCode {
     // The field that it names. In reading, only 14 and 15 before 20 to 2F name one.
     pub field: Option<Field>,

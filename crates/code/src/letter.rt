@@ -7,7 +7,7 @@ use crate::column::Column;
 use crate::number::NoSuchNumber;
 
 // The rows, by the high digit of the byte.
-#[derive(Clone, Copy)]
+#[derive(Clone, Copy, Debug, PartialEq, Eq)]
 pub enum LetterRow {
     Row2,
     Row3,
@@ -17,7 +17,7 @@ pub enum LetterRow {
     Row7,
 }
 
-#[derive(Clone, Copy)]
+#[derive(Clone, Copy, Debug, PartialEq, Eq)]
 pub struct Letter {
     pub row: LetterRow,
     pub column: Column,

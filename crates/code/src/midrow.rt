@@ -5,13 +5,13 @@ ghost use Rattle.code.specs.MidRow.{mid_row_at, mid_row_number, colored, italic,
 use crate::color::Color;
 
 // Italics are no absence of a colour, so that this is no option.
-#[derive(Clone, Copy)]
+#[derive(Clone, Copy, Debug, PartialEq, Eq)]
 pub enum MidRowColor {
     Color(Color),
     Italics,
 }
 
-#[derive(Clone, Copy)]
+#[derive(Clone, Copy, Debug, PartialEq, Eq)]
 pub struct MidRow {
     pub color: MidRowColor,
     pub underline: bool,

@@ -7,7 +7,7 @@ use crate::color::Color;
 use crate::number::NoSuchNumber;
 
 // The sixteen styles. An indent is white and not in italics.
-#[derive(Clone, Copy)]
+#[derive(Clone, Copy, Debug, PartialEq, Eq)]
 pub enum PreambleType {
     Color(Color),
     WhiteItalics,
@@ -71,11 +71,9 @@ impl PreambleType {
     pub fn color(self) -> Color
         ensures { result ≡ color_of_style self }
     {
-        let style = self.style();
-        if style < 7 {
-            Color::try_from(style).unwrap()
-        } else {
-            Color::White
+        match self {
+            PreambleType::Color(color) => color,
+            _ => Color::White,
         }
     }
 
@@ -113,7 +111,7 @@ impl PreambleType {
 
 // A row of 0 to 14 on the screen, counted from the top, and its style. A row above 14 is no row: no constructor makes
 // one, and a code that holds one is not written.
-#[derive(Clone, Copy)]
+#[derive(Clone, Copy, Debug, PartialEq, Eq)]
 pub struct PreambleAddressCode {
     pub row: u8,
     pub underline: bool,
@@ -176,7 +174,7 @@ impl PreambleAddressCode {
     pub fn italics(self) -> bool
         ensures { result ≡ italics_in self }
     {
-        self.ty.style() == 7
+        matches!(self.ty, PreambleType::WhiteItalics)
     }
 
     // The colour of the row.

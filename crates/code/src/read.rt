@@ -125,11 +125,11 @@ impl ControlBytes {
         }
         match (self.prefix, second / 16) {
             (0x11, 2) => Some(Control::MidRow(MidRow::at(second % 16 / 2, second % 2 == 1))),
-            (0x11, 3) => symbol_in(SymbolRow::Special, second),
-            (0x12, 2) => symbol_in(SymbolRow::Spanish, second),
-            (0x12, 3) => symbol_in(SymbolRow::French, second),
-            (0x13, 2) => symbol_in(SymbolRow::Portuguese, second),
-            (0x13, 3) => symbol_in(SymbolRow::German, second),
+            (0x11, 3) => Some(symbol_in(SymbolRow::Special, second)),
+            (0x12, 2) => Some(symbol_in(SymbolRow::Spanish, second)),
+            (0x12, 3) => Some(symbol_in(SymbolRow::French, second)),
+            (0x13, 2) => Some(symbol_in(SymbolRow::Portuguese, second)),
+            (0x13, 3) => Some(symbol_in(SymbolRow::German, second)),
             (0x14, 2) => Some(Control::Command(self.command())),
             (0x17, 2) => tab_in(second),
             _ => None,
@@ -175,13 +175,13 @@ impl ControlBytes {
 }
 
 // The symbol of a row, its column in the low digit of the second byte.
-pub(crate) fn symbol_in(row: SymbolRow, second: u8) -> Option<Control>
-    ensures { result ≡ symbol_in row second }
+pub(crate) fn symbol_in(row: SymbolRow, second: u8) -> Control
+    ensures { Some result ≡ symbol_in row second }
 {
-    Some(Control::Symbol(Symbol {
+    Control::Symbol(Symbol {
         row,
         column: Column::try_from(second % 16).unwrap(),
-    }))
+    })
 }
 
 // The tab of a second byte after 17, or nothing.

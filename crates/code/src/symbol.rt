@@ -7,7 +7,7 @@ use crate::column::Column;
 use crate::number::NoSuchNumber;
 
 // The rows, in the order of their bytes.
-#[derive(Clone, Copy)]
+#[derive(Clone, Copy, Debug, PartialEq, Eq)]
 pub enum SymbolRow {
     // 11 30 to 11 3F.
     Special,
@@ -22,7 +22,7 @@ pub enum SymbolRow {
 }
 
 // As `Letter`, over other rows: one type over both would need a trait of the rows with a law, longer than what it saves.
-#[derive(Clone, Copy)]
+#[derive(Clone, Copy, Debug, PartialEq, Eq)]
 pub struct Symbol {
     pub row: SymbolRow,
     pub column: Column,

@@ -108,10 +108,7 @@ pub fn on_line(field: Option<Field>, channel: Channel, bytes: Pair) -> Pair
     ensures { result ≡ on_line field channel bytes }
 {
     let first = with_channel(channel, with_field(field, bytes));
-    let second = bytes.1;
-    let sent0 = add_parity(first);
-    let sent1 = add_parity(second);
-    Pair(sent0, sent1)
+    Pair(add_parity(first), add_parity(bytes.1))
 }
 
 // The first byte for a field: 15 for 14 before 20 to 2F on field two.

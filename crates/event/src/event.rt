@@ -6,7 +6,7 @@ use crate::mode::Mode;
 use code::{Channel, MidRow, PreambleAddressCode};
 
 // One or two characters for a channel.
-#[derive(Clone, Copy)]
+#[derive(Clone, Copy, Debug, PartialEq, Eq)]
 pub struct Text {
     // Whether the characters take the place of the one before them.
     pub needs_backspace: bool,
@@ -16,7 +16,7 @@ pub struct Text {
     pub channel: Channel,
 }
 
-#[derive(Clone, Copy)]
+#[derive(Clone, Copy, Debug, PartialEq, Eq)]
 pub enum Cea608 {
     // Characters.
     Text(Text),

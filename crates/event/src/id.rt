@@ -4,7 +4,7 @@ ghost use Rattle.event.specs.Id.{id_of, field_of_id, channel_of_id, from_value, 
 
 use code::{Channel, Field};
 
-#[derive(Clone, Copy)]
+#[derive(Clone, Copy, Debug, PartialEq, Eq)]
 pub enum Id {
     // Field one, channel one.
     CC1,

@@ -2,11 +2,11 @@
 ghost use Rattle.std.specs.Prelude.{◌≡◌};
 ghost use Rattle.event.specs.IntoCode.{codes, codes_of, into_code_outcome, text_codes, preamble_codes, alone, command_alone, character_code};
 ghost use Rattle.code.specs.Code.{from_char_outcome};
-ghost use Rattle.event.specs.declared.into_code.IntoCodeError.TheVariants.{NoSuchTab as no_such_tab};
+ghost use Rattle.event.specs.declared.into_code.IntoCodeError.TheVariants.{NoSuchRow as no_such_row, NoSuchTab as no_such_tab};
 
 use crate::event::{Cea608, Text};
 use code::{
-    Channel, Code, Command, Control, ControlCode, Field, NoSuchCharacter, NoSuchTab,
+    Channel, Code, Command, Control, ControlCode, Field, NoSuchCharacter, NoSuchRow, NoSuchTab,
     PreambleAddressCode,
 };
 
@@ -18,6 +18,14 @@ pub enum IntoCodeError {
     NoSuchTab,
     NoSuchFirst,
     NoSuchSecond,
+}
+
+impl From<NoSuchRow> for IntoCodeError {
+    ghost from_gives = { λ _ e. e ≡ no_such_row };
+
+    fn from(_e: NoSuchRow) -> IntoCodeError {
+        IntoCodeError::NoSuchRow
+    }
 }
 
 impl From<NoSuchTab> for IntoCodeError {
@@ -84,9 +92,7 @@ impl Address {
     ) -> Result<(Code, Code), IntoCodeError>
         ensures { into_code_outcome result ≡ preamble_codes self.field self.channel preamble }
     {
-        if 15 <= preamble.row {
-            return Err(IntoCodeError::NoSuchRow);
-        }
+        preamble.bytes()?;
         Ok(self.control(Control::Preamble(preamble)))
     }
 }

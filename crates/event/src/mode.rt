@@ -4,7 +4,7 @@ ghost use Rattle.event.specs.Mode.{is_rollup, rollup_rows, command_of, mode_of};
 
 use code::Command;
 
-#[derive(Clone, Copy)]
+#[derive(Clone, Copy, Debug, PartialEq, Eq)]
 pub enum Mode {
     // Captions are loaded out of sight and shown all at once.
     PopOn,

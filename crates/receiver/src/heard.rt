@@ -27,14 +27,10 @@ pub(crate) fn symbol_event(channel: Channel, symbol: Symbol) -> Option<Cea608>
     ensures { result ≡ symbol_event channel symbol }
 {
     let control = Control::Symbol(symbol);
-    let needs_backspace = control.needs_backspace();
-    let character = control.char();
-    if character.is_none() {
-        return None;
-    }
+    let character = control.char()?;
     Some(Cea608::Text(Text {
-        needs_backspace,
-        char1: character,
+        needs_backspace: control.needs_backspace(),
+        char1: Some(character),
         char2: None,
         channel,
     }))

@@ -17,13 +17,7 @@ pub(crate) fn mode(n: u8) -> Mode {
 }
 
 pub(crate) fn mode_number(m: Mode) -> u8 {
-    match m {
-        Mode::PopOn => 0,
-        Mode::PaintOn => 1,
-        Mode::RollUp2 => 2,
-        Mode::RollUp3 => 3,
-        Mode::RollUp4 => 4,
-    }
+    m as u8
 }
 
 // A character, where the first byte is 1.
