@@ -42,12 +42,7 @@ fn from_command(n: u8) -> [u8; 16] {
 }
 
 fn id_number(i: Id) -> u8 {
-    match i {
-        Id::CC1 => 1,
-        Id::CC2 => 2,
-        Id::CC3 => 3,
-        Id::CC4 => 4,
-    }
+    i as u8 + 1
 }
 
 fn from_value(byte: u8) -> Answer {
