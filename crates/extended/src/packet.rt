@@ -27,7 +27,7 @@ pub struct Unfinished {
 pub(crate) fn count_of(byte: u8) -> usize
     ensures { result ≡ length (unless_filler byte) }
 {
-    if byte == 0 { 0 } else { 1 }
+    (byte != 0) as usize
 }
 
 impl Contents {
@@ -41,12 +41,19 @@ impl Contents {
         }
     }
 
+    // The bytes that are contents.
+    pub fn as_slice(&self) -> &[u8]
+        ensures { result.now ≡ contents_of self.now }
+    {
+        &self.bytes[..MOST_CONTENTS.min(self.length as usize)]
+    }
+
     // The same contents, with a length of at most 32.
     pub(crate) fn cut(self) -> Contents
         ensures { result ≡ cut self }
     {
         Contents {
-            length: self.length.min(MOST_CONTENTS as u8),
+            length: self.as_slice().len() as u8,
             ..self
         }
     }
@@ -79,9 +86,8 @@ impl Contents {
     pub(crate) fn sum(self) -> u8
         ensures { result ≡ sum_of (contents_of self) % 128 }
     {
-        let count = MOST_CONTENTS.min(self.length as usize);
         let mut sum = 0;
-        for byte in &self.bytes[..count] {
+        for byte in self.as_slice() {
             sum = (sum + byte % 128) % 128;
         }
         sum

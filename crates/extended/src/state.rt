@@ -93,7 +93,7 @@ impl ExtendedState {
     }
 
     // Without the packet of a class.
-    pub(crate) fn drop(self, class: Class) -> ExtendedState
+    pub(crate) fn without_packet(self, class: Class) -> ExtendedState
         ensures { result ≡ set_packet self class absent_packet }
     {
         self.with_packet(class, Unfinished::absent())
@@ -156,7 +156,7 @@ impl ExtendedState {
             packet_type,
             contents,
         };
-        let next = self.drop(class);
+        let next = self.without_packet(class);
         if !packet.is_right_sum(sum) {
             return (next, Err(ExtendedError::WrongSum));
         }
@@ -182,7 +182,7 @@ impl ExtendedState {
             return (taken, Ok(None));
         }
         if !packet.contents.has_room(first, second) {
-            return (self.drop(class), Err(ExtendedError::TooLong));
+            return (self.without_packet(class), Err(ExtendedError::TooLong));
         }
         let contents = packet.contents.add(first).add(second);
         (
