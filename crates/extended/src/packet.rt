@@ -82,15 +82,12 @@ impl Contents {
     }
 
     // The sum of the contents, modulo 128.
-    #[tactic(auto, using(crate::proofs::ContentsLemmas::sum_of_more))]
     pub(crate) fn sum(self) -> u8
         ensures { result ≡ sum_of (contents_of self) % 128 }
     {
-        let mut sum = 0;
-        for byte in self.as_slice() {
-            sum = (sum + byte % 128) % 128;
-        }
-        sum
+        self.as_slice()
+            .iter()
+            .fold(0, |sum: u8, byte| sum.wrapping_add(*byte) % 128)
     }
 }
 
