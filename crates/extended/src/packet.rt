@@ -4,6 +4,7 @@ ghost use Rattle.extended.specs.Packet.{content_bytes, is_right_sum, sum_of, unl
 ghost use Rattle.extended.specs.State.{absent_packet, added_all, begun, contents_of, cut, has_room, no_contents};
 
 use crate::class::Class;
+use code::Pair;
 
 // A packet has at most so many content bytes.
 pub(crate) const MOST_CONTENTS: usize = 32;
@@ -58,11 +59,11 @@ impl Contents {
         }
     }
 
-    // Whether there is room for the content bytes of a pair.
-    pub(crate) fn has_room(self, first: u8, second: u8) -> bool
-        ensures { result ≡ has_room self (content_bytes first second) }
+    // Whether there is room for the content bytes of a pair without parity.
+    pub(crate) fn has_room(self, pair: Pair) -> bool
+        ensures { result ≡ has_room self (content_bytes pair.0 pair.1) }
     {
-        self.length as usize + count_of(first) + count_of(second) <= MOST_CONTENTS
+        self.length as usize + count_of(pair.0) + count_of(pair.1) <= MOST_CONTENTS
     }
 
     // With one byte more, unless it is filler.

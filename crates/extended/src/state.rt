@@ -166,25 +166,24 @@ impl ExtendedState {
         )
     }
 
-    // Contents of the class that runs.
+    // Contents of the class that runs: a pair without parity.
     pub(crate) fn fill(
         self,
         captions: Cea608State,
         class: Class,
-        first: u8,
-        second: u8,
+        pair: Pair,
     ) -> (ExtendedState, Result<Option<Given>, ExtendedError>)
-        ensures { received_outcome result ≡ filled_state self captions class (packet_at self.packets class).packet_type (packet_at self.packets class).contents first second }
+        ensures { received_outcome result ≡ filled_state self captions class (packet_at self.packets class).packet_type (packet_at self.packets class).contents pair.0 pair.1 }
     {
         let packet = self.packet(class);
         let taken = ExtendedState { captions, ..self };
         if packet.packet_type.is_none() {
             return (taken, Ok(None));
         }
-        if !packet.contents.has_room(first, second) {
+        if !packet.contents.has_room(pair) {
             return (self.without_packet(class), Err(ExtendedError::TooLong));
         }
-        let contents = packet.contents.add(first).add(second);
+        let contents = packet.contents.add(pair.0).add(pair.1);
         (
             taken.with_packet(class, Unfinished { contents, ..packet }),
             Ok(None),
@@ -198,25 +197,23 @@ impl ExtendedState {
     {
         match self.captions.decode(pair) {
             (captions, Ok(heard)) => {
-                let first = strip_parity(pair.0);
-                let second = strip_parity(pair.1);
-                self.take(captions, heard, first, second)
+                let data = Pair(strip_parity(pair.0), strip_parity(pair.1));
+                self.take(captions, heard, data)
             }
             (_, Err(_)) => (self, Err(ExtendedError::InvalidParity)),
         }
     }
 
-    // A pair of odd parity, by its bytes without parity. The captions' receiver has taken it, and this is its answer.
+    // A pair of odd parity, here without it. The captions' receiver has taken it, and this is its answer.
     pub(crate) fn take(
         self,
         captions: Cea608State,
         heard: Option<Cea608>,
-        first: u8,
-        second: u8,
+        pair: Pair,
     ) -> (ExtendedState, Result<Option<Given>, ExtendedError>)
-        ensures { received_outcome result ≡ by_part_state self (answer heard, captions) (part_of first) first second }
+        ensures { received_outcome result ≡ by_part_state self (answer heard, captions) (part_of pair.0) pair.0 pair.1 }
     {
-        match part_of(first) {
+        match part_of(pair.0) {
             Part::Command => {
                 let next = ExtendedState {
                     captions,
@@ -225,15 +222,15 @@ impl ExtendedState {
                 };
                 (next, Ok(heard.map(Given::Event)))
             }
-            Part::Start(class) => (self.start(captions, class, second), Ok(None)),
-            Part::Continuation(class) => self.go_on(captions, class, second),
-            Part::End => self.end(captions, second),
+            Part::Start(class) => (self.start(captions, class, pair.1), Ok(None)),
+            Part::Continuation(class) => self.go_on(captions, class, pair.1),
+            Part::End => self.end(captions, pair.1),
             Part::Other => match self.running {
                 Running::Captions => {
                     let next = ExtendedState { captions, ..self };
                     (next, Ok(heard.map(Given::Event)))
                 }
-                Running::Extended(class) => self.fill(captions, class, first, second),
+                Running::Extended(class) => self.fill(captions, class, pair),
             },
         }
     }
