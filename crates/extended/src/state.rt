@@ -1,7 +1,7 @@
 // The reading mode: captions by a receiver of their own, and a packet of each class.
 ghost use Rattle.std.specs.Prelude.{◌≡◌, None};
 ghost use Rattle.code.specs.Outcome.{answer};
-ghost use Rattle.extended.specs.State.{absent_packet, by_part_state, continued_state, ended_state, filled_state, fresh_state, given_by, given_outcome, opened_state, packet_at, place, received_outcome, set_packet, started_state, step};
+ghost use Rattle.extended.specs.State.{absent_packet, by_part_state, continued_state, ended_state, filled_state, fresh_state, given_by, given_outcome, opened_state, packet_at, place, received_outcome, set_captions, set_packet, started_state, step};
 ghost use Rattle.extended.specs.Part.{part_of};
 
 use crate::class::Class;
@@ -99,22 +99,28 @@ impl ExtendedState {
         self.with_packet(class, Unfinished::absent())
     }
 
-    // The class runs: its packet is open, and captions do not run. The captions' receiver has taken the pair.
-    pub(crate) fn opened(self, captions: Cea608State, class: Class) -> ExtendedState
-        ensures { result ≡ opened_state self captions class }
+    // With what the captions' receiver is after a pair.
+    pub(crate) fn with_captions(self, captions: Cea608State) -> ExtendedState
+        ensures { result ≡ set_captions self captions }
+    {
+        ExtendedState { captions, ..self }
+    }
+
+    // The class runs: its packet is open, and captions do not run.
+    pub(crate) fn opened(self, class: Class) -> ExtendedState
+        ensures { result ≡ opened_state self self.captions class }
     {
         ExtendedState {
-            captions,
             running: Running::Extended(class),
             ..self
         }
     }
 
     // A start.
-    pub(crate) fn start(self, captions: Cea608State, class: Class, packet_type: u8) -> ExtendedState
-        ensures { (result, answer None) ≡ started_state self captions class packet_type }
+    pub(crate) fn start(self, class: Class, packet_type: u8) -> ExtendedState
+        ensures { (result, answer None) ≡ started_state self self.captions class packet_type }
     {
-        self.opened(captions, class)
+        self.opened(class)
             .with_packet(class, Unfinished::begun(packet_type))
     }
 
@@ -128,7 +134,7 @@ impl ExtendedState {
         ensures { received_outcome result ≡ continued_state self captions class packet_type }
     {
         if self.packet(class).packet_type == Some(packet_type) {
-            return (self.opened(captions, class), Ok(None));
+            return (self.with_captions(captions).opened(class), Ok(None));
         }
         (self, Err(ExtendedError::NotOpen))
     }
@@ -160,10 +166,8 @@ impl ExtendedState {
         if !packet.is_right_sum(sum) {
             return (next, Err(ExtendedError::WrongSum));
         }
-        (
-            ExtendedState { captions, ..next },
-            Ok(Some(Given::Packet(packet))),
-        )
+        let given = Some(Given::Packet(packet));
+        (next.with_captions(captions), Ok(given))
     }
 
     // Contents of the class that runs: a pair without parity.
@@ -176,7 +180,7 @@ impl ExtendedState {
         ensures { received_outcome result ≡ filled_state self captions class (packet_at self.packets class).packet_type (packet_at self.packets class).contents pair.0 pair.1 }
     {
         let packet = self.packet(class);
-        let taken = ExtendedState { captions, ..self };
+        let taken = self.with_captions(captions);
         if packet.packet_type.is_none() {
             return (taken, Ok(None));
         }
@@ -213,23 +217,20 @@ impl ExtendedState {
     ) -> (ExtendedState, Result<Option<Given>, ExtendedError>)
         ensures { received_outcome result ≡ by_part_state self (answer heard, captions) (part_of pair.0) pair.0 pair.1 }
     {
+        let taken = self.with_captions(captions);
         match part_of(pair.0) {
             Part::Command => {
                 let next = ExtendedState {
-                    captions,
                     running: Running::Captions,
-                    ..self
+                    ..taken
                 };
                 (next, Ok(heard.map(Given::Event)))
             }
-            Part::Start(class) => (self.start(captions, class, pair.1), Ok(None)),
+            Part::Start(class) => (taken.start(class, pair.1), Ok(None)),
             Part::Continuation(class) => self.go_on(captions, class, pair.1),
             Part::End => self.end(captions, pair.1),
             Part::Other => match self.running {
-                Running::Captions => {
-                    let next = ExtendedState { captions, ..self };
-                    (next, Ok(heard.map(Given::Event)))
-                }
+                Running::Captions => (taken, Ok(heard.map(Given::Event))),
                 Running::Extended(class) => self.fill(captions, class, pair),
             },
         }
