@@ -1,18 +1,19 @@
 -- The sum of contents, byte by byte.
 -- Assumes nothing.
-use Prim.Native.Nat.{ℕ, zero, suc, ◌+◌}
-use lib.ListN.{get_or, take}
+use Prim.Native.Nat.{ℕ, ◌+◌, ◌%◌, ◌<◌}
 use mathlib.Core.List.{List, [], ◌∷◌}
-use mathlib.Core.Path.{◌≡◌, refl}
+use mathlib.Core.Path.{◌≡◌}
 use native.Mathlib.Omega.{arith}
 use Rattle.extended.specs.Packet.{sum_of}
+use Rattle.std.specs.List.{fold}
 
--- the sum of one byte more
-sum_of_next : (bytes : List ℕ) (i : ℕ) → sum_of (take (suc i) bytes) ≡ sum_of (take i bytes) + get_or bytes i 0
-sum_of_next [] zero = refl
-sum_of_next [] (suc i) = refl
-sum_of_next (b ∷ bs) zero = omega arith
-sum_of_next (b ∷ bs) (suc i) = omega (arith, sum_of_next bs i)
+-- one byte more: as the code adds it, in a byte
+abbrev pub plus : ℕ → ℕ → ℕ
+plus sum b = (sum + b) % 256 % 128
 
-pub sum_of_more : (bytes : List ℕ) (i : ℕ) → sum_of (take (i + 1) bytes) ≡ sum_of (take i bytes) + get_or bytes i 0
-sum_of_more bytes i = let next : i + 1 ≡ suc i = omega arith in rw next (sum_of_next bytes i)
+sum_from : (a : ℕ) (bytes : List ℕ) → a < 128 → fold plus a bytes ≡ (a + sum_of bytes) % 128
+sum_from a [] small = omega (arith, small)
+sum_from a (b ∷ bs) small = omega (arith, sum_from (plus a b) bs (omega arith))
+
+pub sum_by_fold : (bytes : List ℕ) → fold plus 0 bytes ≡ sum_of bytes % 128
+sum_by_fold bytes = omega (arith, sum_from 0 bytes (omega arith))

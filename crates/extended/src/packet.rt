@@ -4,6 +4,7 @@ ghost use Rattle.extended.specs.Packet.{content_bytes, is_right_sum, sum_of, unl
 ghost use Rattle.extended.specs.State.{absent_packet, added_all, begun, contents_of, cut, has_room, no_contents};
 
 use crate::class::Class;
+use code::Pair;
 
 // A packet has at most so many content bytes.
 pub(crate) const MOST_CONTENTS: usize = 32;
@@ -27,7 +28,7 @@ pub struct Unfinished {
 pub(crate) fn count_of(byte: u8) -> usize
     ensures { result ≡ length (unless_filler byte) }
 {
-    if byte == 0 { 0 } else { 1 }
+    (byte != 0) as usize
 }
 
 impl Contents {
@@ -41,21 +42,28 @@ impl Contents {
         }
     }
 
+    // The bytes that are contents.
+    pub fn as_slice(&self) -> &[u8]
+        ensures { result.now ≡ contents_of self.now }
+    {
+        &self.bytes[..MOST_CONTENTS.min(self.length as usize)]
+    }
+
     // The same contents, with a length of at most 32.
     pub(crate) fn cut(self) -> Contents
         ensures { result ≡ cut self }
     {
         Contents {
-            length: self.length.min(MOST_CONTENTS as u8),
+            length: self.as_slice().len() as u8,
             ..self
         }
     }
 
-    // Whether there is room for the content bytes of a pair.
-    pub(crate) fn has_room(self, first: u8, second: u8) -> bool
-        ensures { result ≡ has_room self (content_bytes first second) }
+    // Whether there is room for the content bytes of a pair without parity.
+    pub(crate) fn has_room(self, pair: Pair) -> bool
+        ensures { result ≡ has_room self (content_bytes pair.0 pair.1) }
     {
-        self.length as usize + count_of(first) + count_of(second) <= MOST_CONTENTS
+        self.length as usize + count_of(pair.0) + count_of(pair.1) <= MOST_CONTENTS
     }
 
     // With one byte more, unless it is filler.
@@ -75,16 +83,12 @@ impl Contents {
     }
 
     // The sum of the contents, modulo 128.
-    #[tactic(auto, using(crate::proofs::ContentsLemmas::sum_of_more))]
     pub(crate) fn sum(self) -> u8
         ensures { result ≡ sum_of (contents_of self) % 128 }
     {
-        let count = MOST_CONTENTS.min(self.length as usize);
-        let mut sum = 0;
-        for byte in &self.bytes[..count] {
-            sum = (sum + byte % 128) % 128;
-        }
-        sum
+        self.as_slice()
+            .iter()
+            .fold(0, |sum: u8, byte| sum.wrapping_add(*byte) % 128)
     }
 }
 

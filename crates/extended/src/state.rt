@@ -1,7 +1,7 @@
 // The reading mode: captions by a receiver of their own, and a packet of each class.
 ghost use Rattle.std.specs.Prelude.{◌≡◌, None};
 ghost use Rattle.code.specs.Outcome.{answer};
-ghost use Rattle.extended.specs.State.{absent_packet, by_part_state, continued_state, ended_state, filled_state, fresh_state, given_by, given_outcome, opened_state, packet_at, place, received_outcome, set_packet, started_state, step};
+ghost use Rattle.extended.specs.State.{absent_packet, by_part_state, continued_state, ended_state, filled_state, fresh_state, given_by, given_outcome, opened_state, packet_at, place, received_outcome, set_captions, set_packet, started_state, step};
 ghost use Rattle.extended.specs.Part.{part_of};
 
 use crate::class::Class;
@@ -93,28 +93,34 @@ impl ExtendedState {
     }
 
     // Without the packet of a class.
-    pub(crate) fn drop(self, class: Class) -> ExtendedState
+    pub(crate) fn without_packet(self, class: Class) -> ExtendedState
         ensures { result ≡ set_packet self class absent_packet }
     {
         self.with_packet(class, Unfinished::absent())
     }
 
-    // The class runs: its packet is open, and captions do not run. The captions' receiver has taken the pair.
-    pub(crate) fn opened(self, captions: Cea608State, class: Class) -> ExtendedState
-        ensures { result ≡ opened_state self captions class }
+    // With what the captions' receiver is after a pair.
+    pub(crate) fn with_captions(self, captions: Cea608State) -> ExtendedState
+        ensures { result ≡ set_captions self captions }
+    {
+        ExtendedState { captions, ..self }
+    }
+
+    // The class runs: its packet is open, and captions do not run.
+    pub(crate) fn opened(self, class: Class) -> ExtendedState
+        ensures { result ≡ opened_state self self.captions class }
     {
         ExtendedState {
-            captions,
             running: Running::Extended(class),
             ..self
         }
     }
 
     // A start.
-    pub(crate) fn start(self, captions: Cea608State, class: Class, packet_type: u8) -> ExtendedState
-        ensures { (result, answer None) ≡ started_state self captions class packet_type }
+    pub(crate) fn start(self, class: Class, packet_type: u8) -> ExtendedState
+        ensures { (result, answer None) ≡ started_state self self.captions class packet_type }
     {
-        self.opened(captions, class)
+        self.opened(class)
             .with_packet(class, Unfinished::begun(packet_type))
     }
 
@@ -128,7 +134,7 @@ impl ExtendedState {
         ensures { received_outcome result ≡ continued_state self captions class packet_type }
     {
         if self.packet(class).packet_type == Some(packet_type) {
-            return (self.opened(captions, class), Ok(None));
+            return (self.with_captions(captions).opened(class), Ok(None));
         }
         (self, Err(ExtendedError::NotOpen))
     }
@@ -156,35 +162,32 @@ impl ExtendedState {
             packet_type,
             contents,
         };
-        let next = self.drop(class);
+        let next = self.without_packet(class);
         if !packet.is_right_sum(sum) {
             return (next, Err(ExtendedError::WrongSum));
         }
-        (
-            ExtendedState { captions, ..next },
-            Ok(Some(Given::Packet(packet))),
-        )
+        let given = Some(Given::Packet(packet));
+        (next.with_captions(captions), Ok(given))
     }
 
-    // Contents of the class that runs.
+    // Contents of the class that runs: a pair without parity.
     pub(crate) fn fill(
         self,
         captions: Cea608State,
         class: Class,
-        first: u8,
-        second: u8,
+        pair: Pair,
     ) -> (ExtendedState, Result<Option<Given>, ExtendedError>)
-        ensures { received_outcome result ≡ filled_state self captions class (packet_at self.packets class).packet_type (packet_at self.packets class).contents first second }
+        ensures { received_outcome result ≡ filled_state self captions class (packet_at self.packets class).packet_type (packet_at self.packets class).contents pair.0 pair.1 }
     {
         let packet = self.packet(class);
-        let taken = ExtendedState { captions, ..self };
+        let taken = self.with_captions(captions);
         if packet.packet_type.is_none() {
             return (taken, Ok(None));
         }
-        if !packet.contents.has_room(first, second) {
-            return (self.drop(class), Err(ExtendedError::TooLong));
+        if !packet.contents.has_room(pair) {
+            return (self.without_packet(class), Err(ExtendedError::TooLong));
         }
-        let contents = packet.contents.add(first).add(second);
+        let contents = packet.contents.add(pair.0).add(pair.1);
         (
             taken.with_packet(class, Unfinished { contents, ..packet }),
             Ok(None),
@@ -198,42 +201,37 @@ impl ExtendedState {
     {
         match self.captions.decode(pair) {
             (captions, Ok(heard)) => {
-                let first = strip_parity(pair.0);
-                let second = strip_parity(pair.1);
-                self.take(captions, heard, first, second)
+                let data = Pair(strip_parity(pair.0), strip_parity(pair.1));
+                self.take(captions, heard, data)
             }
             (_, Err(_)) => (self, Err(ExtendedError::InvalidParity)),
         }
     }
 
-    // A pair of odd parity, by its bytes without parity. The captions' receiver has taken it, and this is its answer.
+    // A pair of odd parity, here without it. The captions' receiver has taken it, and this is its answer.
     pub(crate) fn take(
         self,
         captions: Cea608State,
         heard: Option<Cea608>,
-        first: u8,
-        second: u8,
+        pair: Pair,
     ) -> (ExtendedState, Result<Option<Given>, ExtendedError>)
-        ensures { received_outcome result ≡ by_part_state self (answer heard, captions) (part_of first) first second }
+        ensures { received_outcome result ≡ by_part_state self (answer heard, captions) (part_of pair.0) pair.0 pair.1 }
     {
-        match part_of(first) {
+        let taken = self.with_captions(captions);
+        match part_of(pair.0) {
             Part::Command => {
                 let next = ExtendedState {
-                    captions,
                     running: Running::Captions,
-                    ..self
+                    ..taken
                 };
                 (next, Ok(heard.map(Given::Event)))
             }
-            Part::Start(class) => (self.start(captions, class, second), Ok(None)),
-            Part::Continuation(class) => self.go_on(captions, class, second),
-            Part::End => self.end(captions, second),
+            Part::Start(class) => (taken.start(class, pair.1), Ok(None)),
+            Part::Continuation(class) => self.go_on(captions, class, pair.1),
+            Part::End => self.end(captions, pair.1),
             Part::Other => match self.running {
-                Running::Captions => {
-                    let next = ExtendedState { captions, ..self };
-                    (next, Ok(heard.map(Given::Event)))
-                }
-                Running::Extended(class) => self.fill(captions, class, first, second),
+                Running::Captions => (taken, Ok(heard.map(Given::Event))),
+                Running::Extended(class) => self.fill(captions, class, pair),
             },
         }
     }
