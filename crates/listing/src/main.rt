@@ -18,6 +18,8 @@ use streams::{BLOCK, Lister};
 struct Pairs(Listing);
 
 impl Lister for Pairs {
+    const PROGRAM: &'static [u8] = b"listing: ";
+
     ghost fresh = { fresh };
 
     ghost after_block = { after_block };
@@ -69,5 +71,5 @@ impl Lister for Pairs {
 }
 
 fn main(rt: HostRuntime) {
-    Pairs::list_all(&rt, b"listing: ");
+    Pairs::list_all(&rt);
 }

@@ -18,6 +18,8 @@ use streams::{BLOCK, Lister};
 struct Packets(PacketListing);
 
 impl Lister for Packets {
+    const PROGRAM: &'static [u8] = b"packets: ";
+
     ghost fresh = { fresh };
 
     ghost after_block = { after_block };
@@ -67,5 +69,5 @@ impl Lister for Packets {
 }
 
 fn main(rt: HostRuntime) {
-    Packets::list_all(&rt, b"packets: ");
+    Packets::list_all(&rt);
 }

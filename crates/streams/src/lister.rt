@@ -4,16 +4,12 @@ ghost use Rattle.std.specs.Io.KnownBytes.{Appends};
 ghost use Rattle.streams.specs.AfterRead.{AfterRead, read_text};
 ghost use Rattle.streams.specs.Blocks.{EndsDone, IsAnyCutting, ListsAll, StaysDone};
 
-use crate::system::{is_given, open, report};
-use std::env::Env;
+use crate::system::{NAME_ROOM, Source, open, report, too_long};
 use std::io;
 use std::io::{ErrorKind, Read, Write};
 
 // The size of a block.
 pub const BLOCK: usize = 65_536;
-
-// Linux's number of the error that the name of a file is too long.
-const NAME_TOO_LONG: i32 = 36;
 
 // Why a stream is not listed to its end: the input cannot be opened or read, a write failed, or there were more turns than
 // a run can have.
@@ -26,6 +22,9 @@ pub enum Failure {
 
 // The state of a listing, by value. It takes a stream in blocks, and writes the lines of each before the next.
 pub trait Lister: Copy {
+    // What the program says of a failure begins with this, as `listing: `.
+    const PROGRAM: &'static [u8];
+
     // The state of a stream of which nothing is read yet; the state after a block of it, and what is written of the block;
     // and whether no more is listed. A block of no bytes is the end.
     ghost fresh: { Self };
@@ -107,76 +106,37 @@ pub trait Lister: Copy {
         Err(Failure::Endless)
     }
 
-    // Lists standard input, and says what failed. Answers whether its listing is whole.
-    final fn list_input(
-        rt: &HostRuntime,
-        program: &[u8],
-        input: &mut [u8; BLOCK],
-        buffer: &mut [u8; BLOCK],
-    ) -> bool {
-        match Self::list_stream(&mut rt.stdin(), input, buffer, &mut rt.stdout()) {
-            Ok(_) => true,
-            Err(failure) => {
-                report(rt, program, b"standard input", failure);
-                false
-            }
-        }
-    }
-
-    // Lists a file, and says what failed. Answers whether its listing is whole.
-    final fn list_file(
-        rt: &HostRuntime,
-        program: &[u8],
-        name: &[u8],
-        input: &mut [u8; BLOCK],
-        buffer: &mut [u8; BLOCK],
-    ) -> bool {
-        let listed = match open(rt, name) {
-            Ok(mut file) => Self::list_stream(&mut file, input, buffer, &mut rt.stdout()),
-            Err(e) => Err(Failure::Input(e)),
-        };
-        if let Err(failure) = listed {
-            report(rt, program, name, failure);
-            return false;
-        }
-        true
-    }
-
-    // Lists what an argument names; `-` is standard input. Answers whether its listing is whole.
-    final fn list_argument(
-        rt: &HostRuntime,
-        program: &[u8],
-        word: usize,
-        input: &mut [u8; BLOCK],
-        buffer: &mut [u8; BLOCK],
-    ) -> bool {
-        let mut name = [0u8; 4096];
-        match rt.arg(word, &mut name) {
-            Ok(1) if name[0] == b'-' => Self::list_input(rt, program, input, buffer),
-            Ok(len) => Self::list_file(rt, program, &name[..len], input, buffer),
-            Err(_) => {
-                let error = io::Error::from_raw_os_error(NAME_TOO_LONG);
-                report(rt, program, b"the name of a file", Failure::Input(error));
-                false
-            }
-        }
-    }
-
-    // Lists each file that an argument names, or standard input where there is no argument, until one is not listed whole.
-    // What it says begins with the program's name, as `listing: `.
-    final fn list_all(rt: &HostRuntime, program: &[u8]) {
+    // Lists each file that an argument names, or standard input where there is no argument, until one is not listed whole;
+    // what failed of that one is said.
+    final fn list_all(rt: &HostRuntime) {
         let mut input = [0u8; BLOCK];
         let mut buffer = [0u8; BLOCK];
-        if !is_given(rt, 1) {
-            Self::list_input(rt, program, &mut input, &mut buffer);
-            return;
-        }
+        let mut name = [0u8; NAME_ROOM];
         for word in 1..usize::MAX {
-            if !is_given(rt, word)
-                || !Self::list_argument(rt, program, word, &mut input, &mut buffer)
-            {
-                break;
+            let Some(source) = Source::of_argument(rt, word, &mut name) else {
+                return;
+            };
+            if let Err(failure) = list_source::<Self>(rt, source, &mut input, &mut buffer) {
+                report(rt, Self::PROGRAM, source.name(), failure);
+                return;
             }
         }
+    }
+}
+
+// Lists what an argument names.
+fn list_source<L: Lister>(
+    rt: &HostRuntime,
+    source: Source,
+    input: &mut [u8; BLOCK],
+    buffer: &mut [u8; BLOCK],
+) -> Result<L, Failure> {
+    match source {
+        Source::Input => L::list_stream(&mut rt.stdin(), input, buffer, &mut rt.stdout()),
+        Source::File(name) => {
+            let mut file = open(rt, name).map_err(Failure::Input)?;
+            L::list_stream(&mut file, input, buffer, &mut rt.stdout())
+        }
+        Source::Nameless => Err(Failure::Input(too_long())),
     }
 }

@@ -5,14 +5,55 @@ use std::fs::File;
 use std::io;
 use std::io::{ErrorKind, Write};
 
-// Linux's numbers of errors: one for a name that std does not take, and one for what has no number here.
-const NOT_UTF_8: i32 = 84;
+// Room for each name of a file that Linux takes.
+pub(crate) const NAME_ROOM: usize = 4096;
 
+// Linux's numbers of errors: one for what has no number here, one for a longer name, and one for a name that std does not
+// take.
 const INPUT_OUTPUT: i32 = 5;
 
-// Whether there is an argument of this number; the program's own name is 0.
-pub(crate) fn is_given(rt: &HostRuntime, word: usize) -> bool {
-    !matches!(rt.arg(word, &mut []), Err(FillError::NotPresent))
+const NAME_TOO_LONG: i32 = 36;
+
+const NOT_UTF_8: i32 = 84;
+
+// What is listed: standard input, the file of a name, or one whose name is too long to be read.
+#[derive(Clone, Copy)]
+pub(crate) enum Source<'a> {
+    Input,
+    File(&'a [u8]),
+    Nameless,
+}
+
+impl<'a> Source<'a> {
+    // What the argument of this number names, or `None` after the last; the program's own name is 0. `-` is standard input,
+    // and so is what is listed where there is no argument.
+    pub(crate) fn of_argument(
+        rt: &HostRuntime,
+        word: usize,
+        name: &'a mut [u8; NAME_ROOM],
+    ) -> Option<Source<'a>> {
+        match rt.arg(word, name) {
+            Ok(1) if name[0] == b'-' => Some(Source::Input),
+            Ok(len) => Some(Source::File(&name[..len])),
+            Err(FillError::TooLong) => Some(Source::Nameless),
+            Err(FillError::NotPresent) if word == 1 => Some(Source::Input),
+            Err(FillError::NotPresent) => None,
+        }
+    }
+
+    // The name that is said where it fails.
+    pub(crate) fn name(self) -> &'a [u8] {
+        match self {
+            Source::Input => b"standard input",
+            Source::File(name) => name,
+            Source::Nameless => b"the name of a file",
+        }
+    }
+}
+
+// The error of a name that is too long.
+pub(crate) fn too_long() -> io::Error {
+    io::Error::from_raw_os_error(NAME_TOO_LONG)
 }
 
 // Opens a file to read it.
@@ -23,23 +64,19 @@ pub(crate) fn open(rt: &HostRuntime, name: &[u8]) -> io::Result<File> {
     File::open(rt, path)
 }
 
-// Says on standard error what failed of a stream of this name, after the program's. Where nobody reads the output any longer,
-// that is said to nobody.
+// Says on standard error what failed of a stream of this name, and why, after the program's name. Where nobody reads the
+// output any longer, that is said to nobody.
 pub(crate) fn report(rt: &HostRuntime, program: &[u8], name: &[u8], failure: Failure) {
-    match failure {
-        Failure::Input(e) => say_failed(rt, program, name, &e),
-        Failure::Output(e) if e.kind() == ErrorKind::BrokenPipe => {}
-        Failure::Output(e) => say_failed(rt, program, b"standard output", &e),
-        Failure::Endless => {}
-    }
-}
-
-// Says on standard error what failed, and why.
-fn say_failed(rt: &HostRuntime, program: &[u8], what: &[u8], error: &io::Error) {
+    let (what, error) = match failure {
+        Failure::Input(e) => (name, e),
+        Failure::Output(e) if e.kind() == ErrorKind::BrokenPipe => return,
+        Failure::Output(e) => (&b"standard output"[..], e),
+        Failure::Endless => return,
+    };
     say(rt, program);
     say(rt, what);
     say(rt, b": ");
-    say_error(rt, error);
+    say_error(rt, &error);
     say(rt, b"\n");
 }
 

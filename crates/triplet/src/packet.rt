@@ -4,7 +4,7 @@ ghost use Rattle.std.specs.Prelude.{◌≡◌, take};
 ghost use Rattle.triplet.specs.Packet.{at_outcome, at_place, count_of, count_outcome, judged_outcome, markers_right, whole};
 ghost use Rattle.code.specs.Outcome.{answer, refused};
 
-use crate::triplet::{Triplet, has_marker, triplet_of};
+use crate::triplet::{Triplet, TripletBytes, has_marker, triplet_of};
 
 // What is wrong with bytes that should be whole triplets with right markers: 17 before 16.
 #[derive(Clone, Copy, Debug, PartialEq, Eq)]
@@ -51,5 +51,5 @@ pub fn triplet_at(packet: &[u8], place: usize) -> Result<Option<Triplet>, Packet
 {
     judge(packet, packet.len())?;
     let there = packet.chunks_exact(3).nth(place);
-    Ok(there.map(|bytes| triplet_of(bytes[0], bytes[1], bytes[2])))
+    Ok(there.map(|bytes| triplet_of(TripletBytes(bytes[0], bytes[1], bytes[2]))))
 }

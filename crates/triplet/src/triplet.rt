@@ -39,9 +39,10 @@ pub(crate) fn has_marker(first: u8) -> bool
 }
 
 // What three bytes are, by the valid bit and the type. The marker is not looked at.
-pub(crate) fn triplet_of(first: u8, second: u8, third: u8) -> Triplet
-    ensures { result ≡ triplet_of first second third }
+pub(crate) fn triplet_of(bytes: TripletBytes) -> Triplet
+    ensures { result ≡ triplet_of bytes.0 bytes.1 bytes.2 }
 {
+    let TripletBytes(first, second, third) = bytes;
     match first % 8 {
         0b000 => Triplet::PassesThrough(Passing::Clear0, second, third),
         0b001 => Triplet::PassesThrough(Passing::Clear1, second, third),
@@ -60,7 +61,7 @@ impl Triplet {
         ensures { from_bytes_outcome result ≡ read_triplet first second third }
     {
         if has_marker(first) {
-            Ok(triplet_of(first, second, third))
+            Ok(triplet_of(TripletBytes(first, second, third)))
         } else {
             Err(WrongMarker)
         }
