@@ -2,6 +2,7 @@ pub mod AnyCutting
 pub mod Bounds
 pub mod Called
 pub mod Digits
+pub mod Ends
 pub mod Flushing
 pub mod Loops
 pub mod Memory

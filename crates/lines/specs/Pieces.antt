@@ -8,6 +8,8 @@ use Rattle.lines.specs.Line.{empty_line, has_more, over, pending, says, unwritte
 use Rattle.lines.specs.Listing.{most_pairs}
 use Rattle.lines.specs.Words.{last_line, line, line_of, refused_words}
 use Rattle.lines.specs.declared.line.Line.{Line}
+use Rattle.lines.specs.declared.listing.EndError.{EndError}
+use Rattle.lines.specs.declared.listing.EndError.TheVariants as end
 use Rattle.lines.specs.declared.listing.Listing.{Listing}
 use Rattle.lines.specs.declared.listing.Progress.{Progress}
 use Rattle.receiver.specs.Receiver.{Stepped, fresh, step}
@@ -23,6 +25,9 @@ fresh_listing = between_pairs fresh 0 0
 -- one refusal more; there is at most one beyond the limit of pairs
 abbrev pub one_more : ℕ → ℕ
 one_more q = cond (leb q most_pairs) (q + 1) q
+
+abbrev pub one_more_if : Bool → ℕ → ℕ
+one_more_if one q = cond one (one_more q) q
 
 abbrev pub counted : Outcome (Option Cea608) → ℕ → ℕ
 counted (answer e) q = q
@@ -41,6 +46,20 @@ ending l begun words q = record {
 
 abbrev pub refused_by : ℕ → Listing → Line → Listing
 refused_by n l begun = ending l begun (line l.pairs (refused_words n)) (one_more l.refused)
+
+-- the refusals of the stream, by their numbers, and its end by one of them or by none
+abbrev pub end_number : EndError → ℕ
+end_number end.HalfAPair = 9
+end_number end.TooManyPairs = 10
+
+abbrev pub ended_by : Option EndError → Listing → Line → Listing
+ended_by None l begun = ending l begun [] l.refused
+ended_by (Some e) l begun = refused_by (end_number e) l begun
+
+-- half a pair at the end is one too many at the limit
+abbrev pub end_refusal : Option ℕ → ℕ → Option EndError
+end_refusal None k = None
+end_refusal (Some a) k = Some (cond (leb most_pairs k) end.TooManyPairs end.HalfAPair)
 
 abbrev pub with_half : Listing → ℕ → Listing
 with_half l a = record {

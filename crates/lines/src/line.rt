@@ -40,7 +40,7 @@ impl Line {
     pub(crate) fn has_more(&self) -> bool
         ensures { result ≡ has_more self.now }
     {
-        0 < self.waiting().len()
+        !self.waiting().is_empty()
     }
 
     // Writes what waits, as far as there is room. A line of which nothing is left is empty.

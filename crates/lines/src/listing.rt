@@ -2,21 +2,34 @@
 ghost use Rattle.std.specs.Prelude.{◌≡◌, ◌≤◌, ◌<◌, length};
 ghost use Rattle.lines.specs.Listing.{most_pairs};
 ghost use Rattle.lines.specs.Midway.{Between, Further, HasPair, Onward, ReadsOn};
-ghost use Rattle.lines.specs.Pieces.{absorbed, after_pair, between_pairs, counted, ended_listing, fresh_listing, is_done, one_more, read_listing, read_outcome, refused_by, with_line};
-ghost use Rattle.lines.specs.Line.{Flushes, says};
-ghost use Rattle.lines.specs.Words.{last_line, line, refused_words};
-ghost use Rattle.receiver.specs.Heard.{heard_outcome};
+ghost use Rattle.lines.specs.Pieces.{absorbed, after_pair, between_pairs, end_number, end_refusal, ended_by, ended_listing, fresh_listing, is_done, one_more, one_more_if, read_listing, read_outcome, with_line};
+ghost use Rattle.lines.specs.Line.{Flushes};
 ghost use Rattle.receiver.specs.Receiver.{step};
 
 use crate::line::{LINE_LENGTH, Line};
 use crate::put::Writer;
 use crate::words::{put_last_line, put_line_of, put_refused_line};
-use code::{InvalidParity, Pair};
-use event::Cea608;
+use code::Pair;
 use receiver::Cea608State;
 
 // A stream has at most so many pairs; one byte more is refused 10.
 pub const MOST_PAIRS: u32 = 16_777_216;
+
+// What refuses the end of a stream: half a pair, which is refused 9, or more pairs than the limit, refused 10.
+#[derive(Clone, Copy, Debug, PartialEq, Eq)]
+pub enum EndError {
+    HalfAPair = 9,
+    TooManyPairs = 10,
+}
+
+impl EndError {
+    // Its number in a line.
+    pub fn number(self) -> u32
+        ensures { result ≡ end_number self }
+    {
+        self as u32
+    }
+}
 
 // How many pairs were read and refused, what is known of the stream, and the text that waits to be written. `half` is the
 // first byte of a pair whose second has not come.
@@ -47,42 +60,23 @@ pub fn one_more(count: u32) -> u32
     count
 }
 
-// The refusals with that of a pair, if it was refused.
-pub(crate) fn count_refusal(refused: u32, heard: Result<Option<Cea608>, InvalidParity>) -> u32
-    ensures { result ≡ counted (heard_outcome heard) refused }
+// The same where there is one more, and the count as it is where there is none.
+pub fn one_more_if(one: bool, count: u32) -> u32
+    ensures { result ≡ one_more_if one count }
 {
-    match heard {
-        Ok(_) => refused,
-        Err(InvalidParity) => one_more(refused),
+    if one { one_more(count) } else { count }
+}
+
+// What refuses the end of a stream after so many pairs, if half a pair is left. At the limit that is too many: 10 comes
+// before 9.
+pub fn end_refusal(half: Option<u8>, pairs: u32) -> Option<EndError>
+    ensures { result ≡ end_refusal half pairs }
+{
+    match half {
+        None => None,
+        Some(_) if pairs < MOST_PAIRS => Some(EndError::HalfAPair),
+        Some(_) => Some(EndError::TooManyPairs),
     }
-}
-
-// The line with the last line after what it has.
-pub(crate) fn with_last_line(begun: Line, pairs: u32, refused: u32) -> Line
-    ensures { result ≡ says begun (last_line pairs refused) }
-{
-    let mut line = begun;
-    let mut out = Writer {
-        out: &mut line.bytes,
-        at: begun.len,
-    };
-    put_last_line(&mut out, pairs, refused);
-    line.len = out.at;
-    line
-}
-
-// The same with the line of a refusal.
-pub(crate) fn with_refused_line(begun: Line, number: u32, refusal: u32) -> Line
-    ensures { result ≡ says begun (line number (refused_words refusal)) }
-{
-    let mut line = begun;
-    let mut out = Writer {
-        out: &mut line.bytes,
-        at: begun.len,
-    };
-    put_refused_line(&mut out, number, refusal);
-    line.len = out.at;
-    line
 }
 
 // The listing between two pairs, with nothing that waits.
@@ -107,17 +101,26 @@ impl Listing {
         between_pairs(Cea608State::new(), 0, 0)
     }
 
-    // The stream ends with a refusal by this number, after what the line has.
-    pub(crate) fn refused_by(self, refusal: u32, begun: Line) -> Listing
-        ensures { result ≡ refused_by refusal self begun }
+    // The stream ends, with the line of a refusal if there is one, and the last line. Both wait after what this line has.
+    pub(crate) fn ended_by(self, refusal: Option<EndError>, mut line: Line) -> Listing
+        ensures { result ≡ ended_by refusal self line }
     {
-        let refused = one_more(self.refused);
-        let line = with_refused_line(begun, self.pairs, refusal);
+        let mut refused = self.refused;
+        let mut out = Writer {
+            at: line.len,
+            out: &mut line.bytes,
+        };
+        if let Some(refusal) = refusal {
+            put_refused_line(&mut out, self.pairs, refusal.number());
+            refused = one_more(refused);
+        }
+        put_last_line(&mut out, self.pairs, refused);
+        line.len = out.at;
         Listing {
             half: None,
             refused,
             ended: true,
-            line: with_last_line(line, self.pairs, refused),
+            line,
             ..self
         }
     }
@@ -135,7 +138,7 @@ impl Listing {
         loop {
             let (next, heard) = receiver.decode(Pair(input[taken], input[taken + 1]));
             put_line_of(out, pairs, heard);
-            refused = count_refusal(refused, heard);
+            refused = one_more_if(heard.is_err(), refused);
             receiver = next;
             pairs += 1;
             taken += 2;
@@ -172,7 +175,7 @@ impl Listing {
         ensures { result ≡ absorbed self byte }
     {
         if MOST_PAIRS <= self.pairs {
-            return self.refused_by(10, Line::new());
+            return self.ended_by(Some(EndError::TooManyPairs), Line::new());
         }
         match self.half {
             None => Listing {
@@ -184,23 +187,14 @@ impl Listing {
     }
 
     // The end of the input: the last lines wait after what waits already.
-    #[tactic(auto, unfolding(crate::specs::Pieces::ended_listing))]
+    #[tactic(auto, using(crate::proofs::Ends::ended_so), unfolding(crate::specs::Pieces::ended_listing))]
     pub fn end(self) -> Listing
         ensures { result ≡ ended_listing self }
     {
         if self.ended {
             return self;
         }
-        match self.half {
-            None => Listing {
-                half: None,
-                ended: true,
-                line: with_last_line(self.line, self.pairs, self.refused),
-                ..self
-            },
-            Some(_) if self.pairs < MOST_PAIRS => self.refused_by(9, self.line),
-            Some(_) => self.refused_by(10, self.line),
-        }
+        self.ended_by(end_refusal(self.half, self.pairs), self.line)
     }
 
     // Whether the last line has been written: no call takes or writes anything more.

@@ -1,20 +1,25 @@
 -- The reading of a piece, one byte at a time. What it comes to from a state, with some taken and written, is the same before
 -- a byte and after it; where no byte is taken, it is what there is.
 -- Assumes nothing.
+use Rattle.std.specs.Prelude.{Option, None, Some}
 use Prim.Native.Nat.{ℕ, ◌+◌, ◌-◌, ◌≤◌, ◌<◌}
+use lib.Dec.{leb}
 use lib.ListN.{drop, drop_of_length-le, get_or, length}
 use lib.Seq.{drop-cons}
 use mathlib.Core.Bool.{Bool, true, false, cond}
 use mathlib.Core.List.{List, ◌∷◌, ◌++◌}
-use mathlib.Core.Path.{◌≡◌, ap, ap₂, sym, ◌∙◌}
+use mathlib.Core.Path.{◌≡◌, refl, ap, ap₂, sym, subst, ◌∙◌}
 use native.Mathlib.Numerals.{add-one}
 use native.Mathlib.Omega.{arith}
 use Rattle.lines.proofs.Puts.{all_places, put_parts, puts_length, same_bytes, taken_back}
+use Rattle.lines.specs.Listing.{most_pairs}
+use Rattle.lines.specs.Pieces.{end_refusal}
 use Rattle.lines.specs.Put.{Placed, Puts, placed, put_all, room_of}
+use Rattle.lines.specs.declared.listing.EndError.TheVariants as end
 use Rattle.lines.specs.declared.put.Writer.{Writer}
 use Rattle.packet_lines.proofs.Bounds.{a_byte_fits, the_end_fits}
 use Rattle.packet_lines.proofs.ProgressLemmas.{goes_on_lem, no_more_than_room}
-use Rattle.packet_lines.specs.Pieces.{Piece, Read, Says, after_byte, closed, end_packets, ending, of_byte, of_end, piece_of, read_as, read_packets, said_only, stays, stops}
+use Rattle.packet_lines.specs.Pieces.{Piece, Read, Says, Turn, after_byte, closed, count_half, end_packets, end_words, ended_by, ending, of_byte, of_end, piece_of, read_as, read_packets, refused_by, said_only, stays, stops}
 use Rattle.packet_lines.specs.Words.{last_line}
 use Rattle.packet_lines.specs.declared.listing.PacketListing.{PacketListing}
 
@@ -136,12 +141,28 @@ module _ {input : List ℕ} {start l : PacketListing} {first w : Writer} {i take
   over_where_it_stops less stop =
       over_so (where_it_stops input taken l (placed w) (omega (arith, less, so_far.place)) stop)
 
--- the stream ends with so many refusals
+-- the stream ends with these words, the last line and so many refusals
 pub closed_so : (l : PacketListing) (words : List ℕ) {n q : ℕ} {w next : Writer} {m : PacketListing} → n ≡ q → Puts w (words ++ last_line l.pairs l.packets n) next → m ≡ closed l n → Says (ending l words q) w m next
 closed_so l words count puts now = record {
   puts = same_bytes (ap (λ (i : ℕ). words ++ last_line l.pairs l.packets i) count) puts;
   leaves = now ∙ ap (closed l) count;
 }
+
+-- a turn that was found to be this
+pub same_turn : {t u : Turn} {w next : Writer} {m : PacketListing} → t ≡ u → Says t w m next → Says u w m next
+same_turn {w = w} {next} {m} e says = subst (λ (x : Turn). Says x w m next) e says
+
+-- the end of the input, by what refuses it
+pub ended_so : (l : PacketListing) → ended_by (end_refusal l.half l.pairs) l ≡ of_end l
+ended_so l = by_half l.half
+  where
+    by_limit : (t : Bool) → ended_by (Some (cond t end.TooManyPairs end.HalfAPair)) l ≡ refused_by (cond t 10 9) l
+    by_limit true = refl
+    by_limit false = refl
+
+    by_half : (h : Option ℕ) → ended_by (end_refusal h l.pairs) l ≡ ending l (end_words h l.pairs) (count_half h l.refused)
+    by_half None = refl
+    by_half (Some x) = by_limit (leb most_pairs l.pairs)
 
 -- the end, where it says nothing and where it says the last lines
 pub no_end : (l : PacketListing) (output : List ℕ) → stops l (length output) ≡ true → (0, 0, l, output) ≡ end_packets l output

@@ -8,9 +8,10 @@ use Rattle.extended.specs.State.{Step, fresh_state, report_of, step}
 use Rattle.extended.specs.declared.state.ExtendedState.{ExtendedState}
 use Rattle.lines.specs.Line.{over}
 use Rattle.lines.specs.Listing.{most_pairs}
-use Rattle.lines.specs.Pieces.{one_more}
+use Rattle.lines.specs.Pieces.{end_number, one_more}
 use Rattle.lines.specs.Put.{Puts}
 use Rattle.lines.specs.Words.{line, refused_words}
+use Rattle.lines.specs.declared.listing.EndError.{EndError}
 use Rattle.lines.specs.declared.put.Writer.{Writer}
 use Rattle.packet_lines.specs.Words.{last_line, line_of}
 use Rattle.packet_lines.specs.declared.listing.PacketListing.{PacketListing}
@@ -51,6 +52,11 @@ ending l words q = record { text = words ++ last_line l.pairs l.packets q; next 
 
 abbrev pub refused_by : ℕ → PacketListing → Turn
 refused_by m l = ending l (line l.pairs (refused_words m)) (one_more l.refused)
+
+-- it ends by a refusal or by none
+abbrev pub ended_by : Option EndError → PacketListing → Turn
+ended_by None l = ending l [] l.refused
+ended_by (Some e) l = refused_by (end_number e) l
 
 -- the first byte of a pair
 abbrev pub with_half : PacketListing → ℕ → PacketListing

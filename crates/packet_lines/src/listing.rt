@@ -1,15 +1,14 @@
 // The state of a listing of packets, and what a piece of input does to it.
-ghost use Rattle.std.specs.Prelude.{[], ◌++◌, ◌≡◌, ◌<◌};
+ghost use Rattle.std.specs.Prelude.{◌≡◌, ◌<◌};
 ghost use Rattle.extended.specs.State.{given_outcome, report_of, step};
 ghost use Rattle.lines.specs.Listing.{most_pairs};
-ghost use Rattle.lines.specs.Put.{Puts};
-ghost use Rattle.packet_lines.specs.Pieces.{Says, closed, count_half, count_packet, count_refusal, counted, end_packets, end_words, fresh_listing, is_done, of_byte, of_pair, read_outcome, read_packets, refused_by, stops};
-ghost use Rattle.packet_lines.specs.Words.{last_line};
+ghost use Rattle.packet_lines.specs.Pieces.{Says, counted, end_packets, ended_by, fresh_listing, is_done, of_byte, of_pair, read_outcome, read_packets, stops};
 
-use crate::words::{put_last_line, put_line_of, put_refused_end};
+use crate::words::{put_last_line, put_line_of};
 use code::Pair;
 use extended::{ExtendedError, ExtendedState, Given};
-use lines::listing::{MOST_PAIRS, one_more};
+use lines::listing::{EndError, MOST_PAIRS, end_refusal, one_more, one_more_if};
+use lines::words::put_refused_line;
 use lines::{Progress, Writer};
 
 // A byte is taken only where the output has so much room: every line fits into it, and the last two together.
@@ -25,47 +24,6 @@ pub struct PacketListing {
     pub packets: u32,
     pub refused: u32,
     pub ended: bool,
-}
-
-// The packets with that of a pair, if it finished one.
-pub(crate) fn count_packet(packets: u32, answer: Result<Option<Given>, ExtendedError>) -> u32
-    ensures { result ≡ count_packet (report_of (given_outcome answer)) packets }
-{
-    match answer {
-        Ok(Some(Given::Packet(_))) => one_more(packets),
-        _ => packets,
-    }
-}
-
-// The refusals with that of a pair, if it was refused.
-pub(crate) fn count_refusal(refused: u32, answer: Result<Option<Given>, ExtendedError>) -> u32
-    ensures { result ≡ count_refusal (report_of (given_outcome answer)) refused }
-{
-    match answer {
-        Ok(_) => refused,
-        Err(_) => one_more(refused),
-    }
-}
-
-// The refusals with that of half a pair, if there is one.
-pub(crate) fn count_half(refused: u32, half: Option<u8>) -> u32
-    ensures { result ≡ count_half half refused }
-{
-    match half {
-        None => refused,
-        Some(_) => one_more(refused),
-    }
-}
-
-// The last lines, with that of half a pair if there is one.
-pub(crate) fn put_end(out: &mut Writer, half: Option<u8>, pairs: u32, packets: u32, refused: u32)
-    ensures { Puts out.old (end_words half pairs ++ last_line pairs packets refused) out.new }
-{
-    match half {
-        None => put_last_line(out, pairs, packets, refused),
-        Some(_) if pairs < MOST_PAIRS => put_refused_end(out, 9, pairs, packets, refused),
-        Some(_) => put_refused_end(out, 10, pairs, packets, refused),
-    }
 }
 
 impl PacketListing {
@@ -97,10 +55,16 @@ impl PacketListing {
         self.ended || room < ROOM
     }
 
-    // The listing after its last line, with so many refusals.
-    pub(crate) fn closed(self, refused: u32) -> PacketListing
-        ensures { result ≡ closed self refused }
+    // The stream ends: writes the line of a refusal, if there is one, and the last line.
+    pub(crate) fn ended_by(self, refusal: Option<EndError>, out: &mut Writer) -> PacketListing
+        ensures { Says (ended_by refusal self) out.old result out.new }
     {
+        let mut refused = self.refused;
+        if let Some(refusal) = refusal {
+            put_refused_line(out, self.pairs, refusal.number());
+            refused = one_more(refused);
+        }
+        put_last_line(out, self.pairs, self.packets, refused);
         PacketListing {
             half: None,
             refused,
@@ -122,19 +86,10 @@ impl PacketListing {
             state,
             half: None,
             pairs: self.pairs + 1,
-            packets: count_packet(self.packets, answer),
-            refused: count_refusal(self.refused, answer),
+            packets: one_more_if(matches!(answer, Ok(Some(Given::Packet(_)))), self.packets),
+            refused: one_more_if(answer.is_err(), self.refused),
             ..self
         }
-    }
-
-    // A byte beyond the limit of pairs.
-    pub(crate) fn too_many(self, out: &mut Writer) -> PacketListing
-        ensures { Says (refused_by 10 self) out.old result out.new }
-    {
-        let refused = one_more(self.refused);
-        put_refused_end(out, 10, self.pairs, self.packets, refused);
-        self.closed(refused)
     }
 
     // A whole pair. A state may have any count, so that the caller has tested it.
@@ -153,7 +108,7 @@ impl PacketListing {
         ensures { Says (of_byte self byte) out.old result out.new }
     {
         if MOST_PAIRS <= self.pairs {
-            return self.too_many(out);
+            return self.ended_by(Some(EndError::TooManyPairs), out);
         }
         match self.half {
             None => PacketListing {
@@ -201,10 +156,9 @@ impl PacketListing {
                 },
             );
         }
-        let refused = count_half(self.refused, self.half);
         let mut out = Writer { out: output, at: 0 };
-        put_end(&mut out, self.half, self.pairs, self.packets, refused);
+        let listing = self.ended_by(end_refusal(self.half, self.pairs), &mut out);
         let written = out.at;
-        (self.closed(refused), Progress { taken: 0, written })
+        (listing, Progress { taken: 0, written })
     }
 }

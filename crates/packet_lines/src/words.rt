@@ -2,7 +2,7 @@
 ghost use Rattle.std.specs.Prelude.{◌++◌, ◌≡◌};
 ghost use Rattle.extended.specs.State.{contents_of, given_outcome, report_of};
 ghost use Rattle.lines.specs.Put.{Puts};
-ghost use Rattle.lines.specs.Words.{decimal, line, refused_words};
+ghost use Rattle.lines.specs.Words.{decimal, line};
 ghost use Rattle.packet_lines.specs.Words.{character, characters, contents_words, hex_byte, hex_bytes, last_line, line_of, packet_data, packet_words};
 
 use extended::{Contents, ExtendedError, Given, Packet};
@@ -122,18 +122,4 @@ pub(crate) fn put_last_line(out: &mut Writer, pairs: u32, packets: u32, refused:
     put_count(out, b" packets ", packets);
     put_count(out, b" refused ", refused);
     out.put(b'\n');
-}
-
-// The line of a refusal that ends the stream, and the last line.
-pub(crate) fn put_refused_end(
-    out: &mut Writer,
-    refusal: u32,
-    pairs: u32,
-    packets: u32,
-    refused: u32,
-)
-    ensures { Puts out.old (line pairs (refused_words refusal) ++ last_line pairs packets refused) out.new }
-{
-    put_refused_line(out, pairs, refusal);
-    put_last_line(out, pairs, packets, refused);
 }

@@ -1,7 +1,7 @@
 -- By whether the listing stops with so much room.
-use Rattle.std.proofs.Common.{refl, rules, sym, ◌∙◌}
-use Rattle.packet_lines.proofs.Reading.{closed_so, no_end, the_end}
-use Rattle.packet_lines.specs.Pieces.{end_words}
+use Rattle.std.proofs.Common.{refl, ap, rules, sym, ◌∙◌}
+use Rattle.packet_lines.proofs.Reading.{ended_so, no_end, same_turn, the_end}
+use Rattle.packet_lines.specs.Pieces.{ended_by}
 use Rattle.packet_lines.proofs.listing.PacketListing.end.Goals as goal
 
 pub returns-then-stops : goal.returns-then-stops
@@ -11,5 +11,5 @@ pub returns : goal.returns
 returns c =
     let l = c.args.self in
     the_end l c.args.output.now (sym c.stops.ensures ∙ c.if-stops.false) refl
-    (closed_so l (end_words l.half l.pairs) c.count_half-refused.ensures c.put_end.ensures c.closed.ensures)
+    (same_turn (ap (λ r. ended_by r l) c.end_refusal.ensures ∙ ended_so l) c.ended_by-listing.ensures)
     (search rules)
