@@ -5,12 +5,9 @@ ghost use Rattle.lines.specs.Put.{Puts};
 ghost use Rattle.lines.specs.Words.{decimal, line};
 ghost use Rattle.packet_lines.specs.Words.{character, characters, contents_words, hex_byte, hex_bytes, last_line, line_of, packet_data, packet_words};
 
-use extended::{Contents, ExtendedError, Given, Packet};
+use extended::{ExtendedError, Given, Packet};
 use lines::put::{Writer, hex_digit};
 use lines::words::put_refused_line;
-
-// A packet has at most so many content bytes.
-const MOST_CONTENTS: usize = 32;
 
 // Two hex digits.
 pub(crate) fn put_hex_byte(out: &mut Writer, byte: u8)
@@ -59,13 +56,6 @@ pub(crate) fn put_bytes(out: &mut Writer, bytes: &[u8])
     out.put(b'"');
 }
 
-pub(crate) fn put_contents(out: &mut Writer, contents: Contents)
-    ensures { Puts out.old (contents_words (contents_of contents)) out.new }
-{
-    let count = MOST_CONTENTS.min(contents.length as usize);
-    put_bytes(out, &contents.bytes[..count]);
-}
-
 // The class, the type and the contents of a packet.
 #[tactic(auto, using(lines::proofs::Puts::put_parts))]
 pub(crate) fn put_packet(out: &mut Writer, packet: Packet)
@@ -75,7 +65,7 @@ pub(crate) fn put_packet(out: &mut Writer, packet: Packet)
     out.put(b' ');
     put_hex_byte(out, packet.packet_type);
     out.put(b' ');
-    put_contents(out, packet.contents);
+    put_bytes(out, packet.contents.as_slice());
 }
 
 // The line of a packet that ended in the pair with this number.

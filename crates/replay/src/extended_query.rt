@@ -150,10 +150,10 @@ fn count(contents: &Contents) -> u8
 
 // How many contents there are from a place on, at most fourteen, and these.
 fn part(contents: &Contents, at: u8) -> [u8; 16] {
-    let count = count(contents) as usize;
-    let start = count.min(at as usize);
-    let end = count.min(start + 14);
-    let shown = &contents.bytes[start..end];
+    let bytes = contents.as_slice();
+    let start = bytes.len().min(at as usize);
+    let end = bytes.len().min(start + 14);
+    let shown = &bytes[start..end];
     let mut out = padded(&[shown.len() as u8]);
     out[1..=shown.len()].copy_from_slice(shown);
     out
