@@ -4,7 +4,7 @@ ghost use Rattle.queue.specs.Ring.{pop_outcome, pop_ring};
 ghost use Rattle.queue.specs.Turn.{command_turn, single_turn, turn_in};
 
 use crate::number::{byte_of, is_single, needs_backspace, pair_of};
-use crate::ring::Queue;
+use crate::ring::{PLACES, Queue};
 use crate::well_formed::IllFormed;
 use code::Pair;
 
@@ -79,7 +79,7 @@ impl Queue {
                 held: None,
             };
         }
-        let start = self.start % 64;
+        let start = self.start % PLACES;
         let first = self.places[start];
         if !is_single(first) {
             return command_turn(first);
@@ -91,7 +91,7 @@ impl Queue {
                 held: None,
             };
         }
-        single_turn(first, self.places[(start + 1) % 64])
+        single_turn(first, self.places[(start + 1) % PLACES])
     }
 
     // The next pair for the line; 80 80 where nothing waits.
@@ -104,7 +104,7 @@ impl Queue {
         }
         let turn = self.turn();
         let queue = Queue {
-            start: (self.start + turn.freed) % 64,
+            start: (self.start + turn.freed) % PLACES,
             waiting: self.waiting - turn.freed,
             held: turn.held,
             ..self

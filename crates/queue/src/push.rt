@@ -4,7 +4,7 @@ ghost use Rattle.queue.specs.Entry.{entry_for, entry_outcome, queueable_refusal}
 ghost use Rattle.queue.specs.Ring.{push_outcome, push_refusal, push_ring};
 
 use crate::queueable::{QueueableError, numbered};
-use crate::ring::Queue;
+use crate::ring::{PLACES, Queue};
 use code::Code;
 
 // `UnknownByte` is refusal 2, `NoSuchRow` refusal 3, `NotACommand` refusal 18, `Full` refusal 7, `IllFormed` refusal 12.
@@ -40,7 +40,7 @@ impl Queue {
             return Err(PushError::IllFormed);
         }
         match numbered(code)? {
-            Some(_) if 64 <= self.waiting => Err(PushError::Full),
+            Some(_) if PLACES <= self.waiting => Err(PushError::Full),
             number => Ok(number),
         }
     }
@@ -55,7 +55,7 @@ impl Queue {
         let answer = match self.entry_for(code) {
             Ok(entry) => {
                 if let Some(number) = entry {
-                    queue.places[(self.start + self.waiting) % 64] = number;
+                    queue.places[(self.start + self.waiting) % PLACES] = number;
                     queue.waiting = self.waiting + 1;
                 }
                 Ok(())

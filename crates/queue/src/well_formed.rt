@@ -3,7 +3,7 @@
 ghost use Rattle.std.specs.Prelude.{◌≡◌};
 ghost use Rattle.queue.specs.Ring.{well_formed};
 
-use crate::ring::Queue;
+use crate::ring::{PLACES, Queue};
 
 // Refusal 12: the state that was handed in is not well formed.
 #[derive(Clone, Copy, Debug, PartialEq, Eq)]
@@ -15,6 +15,8 @@ impl Queue {
     pub fn is_well_formed(&self) -> bool
         ensures { result ≡ well_formed self.now }
     {
-        self.start < 64 && self.waiting <= 64 && self.held.is_none_or(|number| number < 0x8000)
+        self.start < PLACES
+            && self.waiting <= PLACES
+            && self.held.is_none_or(|number| number < 0x8000)
     }
 }

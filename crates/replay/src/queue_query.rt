@@ -53,10 +53,8 @@ pub(crate) fn pair_answer(pair: Pair) -> [u8; 16] {
     padded(&[0, pair.0, pair.1])
 }
 
-fn n_codes(queue: &mut Queue) -> Answer {
-    let (next, count) = queue.n_codes();
-    *queue = next;
-    Ok(count_answer(count?))
+fn n_codes(queue: &Queue) -> Answer {
+    Ok(count_answer(queue.n_codes()?))
 }
 
 // A number's eight bytes, the lowest first, after a first byte of 0.

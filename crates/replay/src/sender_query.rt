@@ -45,16 +45,12 @@ fn send(sender: &mut Sender) -> Answer {
     Ok(queue_query::pair_answer(pair?))
 }
 
-fn n_codes(sender: &mut Sender) -> Answer {
-    let (next, count) = sender.n_codes();
-    *sender = next;
-    Ok(queue_query::count_answer(count?))
+fn n_codes(sender: &Sender) -> Answer {
+    Ok(queue_query::count_answer(sender.n_codes()?))
 }
 
-fn is_idle(sender: &mut Sender) -> Answer {
-    let (next, idle) = sender.is_idle();
-    *sender = next;
-    Ok(padded(&[0, idle? as u8]))
+fn is_idle(sender: &Sender) -> Answer {
+    Ok(padded(&[0, sender.is_idle()? as u8]))
 }
 
 // Seven bytes as a number, the lowest first, with the seventh once more as the eighth: the largest number is there too.

@@ -63,7 +63,7 @@ count_by s false e fits = ap (counted_by s) (ring.ill_formed_count s.queue e) �
 count_is_the_queue's : (s : Sender) → repeats_fit s.repeats ≡ true → ((count_ring s.queue).0, s) ≡ count_sender s
 count_is_the_queue's s fits = count_by s (queue.well_formed s.queue) refl fits
 
-pub counted_by_queue : (s : Sender) (r : Queue × Result ℕ IllFormed) → repeats_fit s.repeats ≡ true → count_outcome r ≡ count_ring s.queue → (count_answer_outcome r.1, s) ≡ count_sender s
+pub counted_by_queue : (s : Sender) (r : Result ℕ IllFormed) → repeats_fit s.repeats ≡ true → count_outcome (s.queue, r) ≡ count_ring s.queue → (count_answer_outcome r, s) ≡ count_sender s
 counted_by_queue s r fits counted = ap (counted_by s) counted ∙ count_is_the_queue's s fits
 
 -- where it does not fit, both are refused

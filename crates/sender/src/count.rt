@@ -8,13 +8,12 @@ use queue::IllFormed;
 impl Sender {
     // The codes that wait, and the held one. A pair that is owed is no code.
     #[tactic(auto, using(crate::proofs::RepeatsFit::refused_count, crate::proofs::RepeatsFit::counted_by_queue))]
-    pub fn n_codes(self) -> (Sender, Result<usize, IllFormed>)
-        ensures { count_outcome result ≡ count_sender self }
+    pub fn n_codes(&self) -> Result<usize, IllFormed>
+        ensures { count_outcome (self.now, result) ≡ count_sender self.now }
     {
         if !self.repeats.is_well_formed() {
-            return (self, Err(IllFormed));
+            return Err(IllFormed);
         }
-        let (_, answer) = self.queue.n_codes();
-        (self, answer)
+        self.queue.n_codes()
     }
 }

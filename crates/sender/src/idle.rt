@@ -17,12 +17,12 @@ impl Sender {
 
     // Whether all that was accepted has been sent, each command twice.
     #[tactic(auto, unfolding(crate::specs::Sender::idle_sender))]
-    pub fn is_idle(self) -> (Sender, Result<bool, IllFormed>)
-        ensures { idle_outcome result ≡ idle_sender self }
+    pub fn is_idle(&self) -> Result<bool, IllFormed>
+        ensures { idle_outcome (self.now, result) ≡ idle_sender self.now }
     {
         if !self.is_well_formed() {
-            return (self, Err(IllFormed));
+            return Err(IllFormed);
         }
-        (self, Ok(self.has_nothing()))
+        Ok(self.has_nothing())
     }
 }

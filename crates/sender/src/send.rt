@@ -7,7 +7,7 @@ ghost use Rattle.sender.specs.Sending.{repeats_after};
 use crate::sender::{Repeats, Sender};
 use crate::well_formed::is_command;
 use code::Pair;
-use queue::{IllFormed, Queue};
+use queue::{IllFormed, PLACES, Queue};
 
 // What a send does: the pair that goes out, how many places of the ring it frees, and what is held and owed afterwards.
 #[derive(Clone, Copy)]
@@ -56,7 +56,7 @@ impl Sender {
     {
         Sender {
             queue: Queue {
-                start: (self.queue.start + step.freed) % 64,
+                start: (self.queue.start + step.freed) % PLACES,
                 waiting: self.queue.waiting - step.freed,
                 held: step.held,
                 ..self.queue
