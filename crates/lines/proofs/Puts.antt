@@ -108,5 +108,5 @@ pub taken_back : (next : Writer) {memory : List ℕ} {s : Placed} → memory ≡
 taken_back next e so = ap {B = Placed} (λ (o : List ℕ). (next.at, o)) e ∙ so
 
 -- words after words of a line are one word of it
-pub says_twice : (l : Line) (xs ys : List ℕ) → says (says l xs) ys ≡ says l (xs ++ ys)
+says_twice : (l : Line) (xs ys : List ℕ) → says (says l xs) ys ≡ says l (xs ++ ys)
 says_twice l xs ys = ap {B = Line} (λ (s : Placed). record { bytes = s.1; at = l.at; len = s.0 }) (sym (put_parts (l.len, l.bytes) xs ys))
