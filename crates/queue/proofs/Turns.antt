@@ -5,7 +5,7 @@ use mathlib.Core.Bool.{Bool, true, false, cond}
 use mathlib.Core.List.{List, [], ◌∷◌}
 use Rattle.std.specs.Prelude.{Option, None, Some}
 use mathlib.Core.Path.{◌≡◌, refl, ap, ap₂, sym, ◌∙◌}
-use Prim.Native.Nat.{ℕ, zero, suc, ◌+◌, ◌-◌, ◌≤◌, ◌<◌}
+use Prim.Native.Nat.{ℕ, zero, suc, ◌+◌, ◌-◌, ◌%◌, ◌<◌}
 use native.Mathlib.Omega.{arith}
 use lib.ListN.{length}
 use Rattle.code.specs.Code.{needs_backspace}
@@ -15,11 +15,10 @@ use Rattle.code.specs.declared.code.Code.{Code}
 use Rattle.code.specs.declared.pair.Pair.{Pair}
 use Rattle.queue.proofs.Refines.{ill_formed_pop, popped_as}
 use Rattle.queue.proofs.WellFormed.{formed}
-use Rattle.queue.proofs.Places.{how_many_lem}
 use Rattle.queue.specs.Number.{code_of}
 use Rattle.queue.specs.Queue.{Pop, byte_of, is_single, pair_of, pop, pop_command, pop_single, pop_two, pop_waiting, queued}
 use Rattle.queue.specs.Ring.{code_at_place, codes_from, held_as, held_in, left_in, number_at, pop_ring, view, well_formed}
-use Rattle.queue.specs.Turn.{command_turn, freeing, front_turn, single_turn, turn_by, turn_in, turn_of}
+use Rattle.queue.specs.Turn.{command_turn, freeing, front_turn, moved_on, single_turn, turn_by, turn_in, turn_of}
 use Rattle.queue.specs.declared.pop.Turn.{Turn}
 use Rattle.queue.specs.declared.ring.Queue.{Queue}
 
@@ -126,20 +125,15 @@ turn_is_the_pop q = ap (λ (t : Turn). t.pair) (in_ring q.places q.start q.waiti
 pub turn_leaves : (q : Queue) → freeing q (turn_in q) ≡ left_in q
 turn_leaves q = ap (freeing q) (in_ring q.places q.start q.waiting q.held)
 
-pub turn_frees_waiting : (q : Queue) → (turn_in q).freed ≤ q.waiting
-turn_frees_waiting q =
-    omega (arith, ap (λ (t : Turn). t.freed) (in_ring q.places q.start q.waiting q.held), how_many_lem q.places q.start q.waiting)
+-- the start and the places freed may be counted modulo 64 first
+pub start_moved_on : (start freed : ℕ) → (start % 64 + freed % 64) % 64 ≡ (start + freed) % 64
+start_moved_on start freed = omega arith
 
 -- a well-formed ring is left as its turn says
-pub taken_by_turn : (q : Queue) (t : Turn) → well_formed q ≡ true → t ≡ turn_in q → (answer t.pair, freeing q t) ≡ pop_ring q
-taken_by_turn q t formed is =
-    ap₂ {C = Outcome Pair × Queue} (λ (p : Pair) (r : Queue). (answer p, r)) (ap (λ (x : Turn). x.pair) is ∙ turn_is_the_pop q) (ap (freeing q) is ∙ turn_leaves q)
+pub taken_by_turn : (q next : Queue) (t : Turn) → well_formed q ≡ true → t ≡ turn_in q → next ≡ moved_on q t.freed t.held → (answer t.pair, next) ≡ pop_ring q
+taken_by_turn q next t formed is left =
+    ap₂ {C = Outcome Pair × Queue} (λ (p : Pair) (r : Queue). (answer p, r)) (ap (λ (x : Turn). x.pair) is ∙ turn_is_the_pop q) (left ∙ ap (freeing q) is ∙ turn_leaves q)
     ∙ sym (popped_as q formed)
-
-pub turn_fits : (q : Queue) (t : Turn) → well_formed q ≡ true → t ≡ turn_in q → q.start + t.freed ≤ 127
-turn_fits q t is_formed is =
-    let f = formed q is_formed in
-    omega (arith, f.start, f.waiting, ap (λ (x : Turn). x.freed) is, turn_frees_waiting q)
 
 pub refused_pop : (q : Queue) → well_formed q ≡ false → (refused 12, q) ≡ pop_ring q
 refused_pop q e = sym (ill_formed_pop q e)

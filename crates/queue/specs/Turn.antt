@@ -38,11 +38,14 @@ command_turn n = turn_by (n ∷ []) (pop_command (code_of n) [])
 abbrev pub single_turn : ℕ → ℕ → Turn
 single_turn first second = turn_by (first ∷ second ∷ []) (pop_two (code_of first) (code_of second) [])
 
--- the ring after a turn
-abbrev pub freeing : Queue → Turn → Queue
-freeing q t = record {
+-- the ring with places at the front free again and a held code, and the ring after a turn
+abbrev pub moved_on : Queue → ℕ → Option ℕ → Queue
+moved_on q freed h = record {
   places = q.places;
-  start = (q.start + t.freed) % 64;
-  waiting = q.waiting - t.freed;
-  held = t.held;
+  start = (q.start + freed) % 64;
+  waiting = q.waiting - freed;
+  held = h;
 }
+
+abbrev pub freeing : Queue → Turn → Queue
+freeing q t = moved_on q t.freed t.held

@@ -7,6 +7,7 @@ use crate::queueable::{QueueableError, numbered};
 use crate::ring::{PLACES, Queue};
 use code::Code;
 
+// Flat, so that one `match` of a caller has all of 01's numbers: the first three are those of `QueueableError`.
 // `UnknownByte` is refusal 2, `NoSuchRow` refusal 3, `NotACommand` refusal 18, `Full` refusal 7, `IllFormed` refusal 12.
 #[derive(Clone, Copy, Debug, PartialEq, Eq)]
 pub enum PushError {

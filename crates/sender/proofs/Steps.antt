@@ -3,12 +3,12 @@
 -- Assumes nothing.
 use mathlib.Core.Bool.{true, false}
 use mathlib.Core.Path.{◌≡◌, refl, ap, ap₂, sym, ◌∙◌}
-use Prim.Native.Nat.{ℕ, ◌+◌, ◌-◌, ◌%◌, ◌≤◌, ◌<◌}
+use Prim.Native.Nat.{ℕ, ◌+◌, ◌-◌, ◌%◌, ◌<◌}
 use native.Mathlib.Omega.{arith}
 use Rattle.code.specs.Outcome.{Outcome, answer, refused}
 use Rattle.code.specs.declared.pair.Pair.{Pair}
 use Rattle.queue.proofs.Refines as ring
-use Rattle.queue.proofs.Turns.{turn_frees_waiting, turn_is_the_pop, turn_leaves}
+use Rattle.queue.proofs.Turns.{turn_is_the_pop, turn_leaves}
 use Rattle.queue.proofs.WellFormed.{formed}
 use Rattle.queue.specs.Ring.{pop_ring}
 use Rattle.queue.specs.Ring as queue
@@ -50,22 +50,9 @@ step_is_the_send s e =
     let told = steps_by s (source (view s)) (queue_formed s e) in
     ap₂ {C = Outcome Pair × Sender} (λ (p : Pair) (r : Sender). (answer p, r)) told.0 told.1 ∙ sym (sent_as s e)
 
--- it frees no more places than there are codes
-freed_by : (s : Sender) (o : Source) → (step_by o s.queue.held (turn_in s.queue)).freed ≤ s.queue.waiting
-freed_by s (ahead p) = omega arith
-freed_by s pops = turn_frees_waiting s.queue
-
-pub step_frees_waiting : (s : Sender) → (step_in s).freed ≤ s.queue.waiting
-step_frees_waiting s = freed_by s (source (view s))
-
 -- a send as the code makes it
 pub refused_send : (s : Sender) → well_formed s ≡ false → (refused 12, s) ≡ send_sender s
 refused_send s e = sym (ill_formed_send s e)
-
-pub step_fits : (s : Sender) (t : Step) → well_formed s ≡ true → t ≡ step_in s → (s.queue.start < 64) × (s.queue.waiting ≤ 64) × (t.freed ≤ s.queue.waiting)
-step_fits s t e is =
-    let f = formed s.queue (queue_formed s e) in
-    (f.start, f.waiting, omega (arith, ap (λ (x : Step). x.freed) is, step_frees_waiting s))
 
 pub sent_by_step : (s : Sender) (t : Step) (next : Sender) → well_formed s ≡ true → t ≡ step_in s → next ≡ moved s t → (answer t.pair, next) ≡ send_sender s
 sent_by_step s t next e is left =

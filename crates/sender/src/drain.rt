@@ -5,7 +5,6 @@ ghost use Rattle.sender.specs.Drain.{drain_outcome, drain_sender};
 ghost use Rattle.sender.specs.Sender.{well_formed};
 
 use crate::sender::Sender;
-use queue::PLACES;
 
 // `StartPastEnd` is refusal 11, `IllFormed` refusal 12.
 #[derive(Clone, Copy, Debug, PartialEq, Eq)]
@@ -29,10 +28,7 @@ impl Sender {
             let step = self.step();
             part[2 * sends] = step.pair.0;
             part[2 * sends + 1] = step.pair.1;
-            self.queue.start = (self.queue.start + step.freed) % PLACES;
-            self.queue.waiting -= step.freed;
-            self.queue.held = step.held;
-            self.repeats = step.repeats;
+            self.make(step);
         }
         (most, self)
     }

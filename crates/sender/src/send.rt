@@ -1,5 +1,5 @@
 // Sending the next pair: a repeat that is owed, else a pair of the queue.
-ghost use Rattle.std.specs.Prelude.{◌≡◌, ◌≤◌, ◌<◌};
+ghost use Rattle.std.specs.Prelude.{◌≡◌};
 ghost use Rattle.sender.specs.ByParts.{moved, step_in};
 ghost use Rattle.sender.specs.Sender.{send_outcome, send_sender};
 ghost use Rattle.sender.specs.Sending.{repeats_after};
@@ -7,7 +7,7 @@ ghost use Rattle.sender.specs.Sending.{repeats_after};
 use crate::sender::{Repeats, Sender};
 use crate::well_formed::is_command;
 use code::Pair;
-use queue::{IllFormed, PLACES, Queue};
+use queue::IllFormed;
 
 // What a send does: the pair that goes out, how many places of the ring it frees, and what is held and owed afterwards.
 #[derive(Clone, Copy)]
@@ -49,24 +49,16 @@ impl Sender {
         }
     }
 
-    // The sender after a step. A pop of the queue would do the same, and copy the ring once more.
-    pub(crate) fn moved(self, step: Step) -> Sender
-        requires { (self.queue.start < 64) × (self.queue.waiting ≤ 64) × (step.freed ≤ self.queue.waiting) }
-        ensures { result ≡ moved self step }
+    // Makes a step, in place. A pop of the queue would do the same, and copy the ring once more.
+    pub(crate) fn make(&mut self, step: Step)
+        ensures { self.new ≡ moved self.old step }
     {
-        Sender {
-            queue: Queue {
-                start: (self.queue.start + step.freed) % PLACES,
-                waiting: self.queue.waiting - step.freed,
-                held: step.held,
-                ..self.queue
-            },
-            repeats: step.repeats,
-        }
+        self.queue.move_on(step.freed, step.held);
+        self.repeats = step.repeats;
     }
 
     // The next pair for the line; 80 80 where nothing is left to send.
-    #[tactic(auto, using(crate::proofs::Steps::refused_send, crate::proofs::Steps::sent_by_step, crate::proofs::Steps::step_fits))]
+    #[tactic(auto, using(crate::proofs::Steps::refused_send, crate::proofs::Steps::sent_by_step))]
     pub fn send(self) -> (Sender, Result<Pair, IllFormed>)
         ensures { send_outcome result ≡ send_sender self }
     {
@@ -74,6 +66,8 @@ impl Sender {
             return (self, Err(IllFormed));
         }
         let step = self.step();
-        (self.moved(step), Ok(step.pair))
+        let mut sender = self;
+        sender.make(step);
+        (sender, Ok(step.pair))
     }
 }

@@ -1,11 +1,10 @@
 -- A turn of the loop is a send (`Filling.one_turn`), and with no turn left the writer has come to what has been done.
-use Rattle.std.proofs.Common.{◌+◌, ◌*◌, ◌≡◌, true, ap, sym, ◌∙◌, set, arith}
+use Rattle.std.proofs.Common.{◌+◌, ◌*◌, ◌≡◌, true, ap, ap₂, sym, ◌∙◌, set, arith}
 use Rattle.code.specs.Outcome.{Outcome}
 use Rattle.code.specs.declared.pair.Pair.{Pair}
-use Rattle.queue.proofs.WellFormed.{formed}
 use Rattle.sender.proofs.Filling.{comes_to, done_at_most, done_when_idle, one_turn}
-use Rattle.sender.proofs.Refines.{queue_formed, sent_formed}
-use Rattle.sender.proofs.Steps.{step_frees_waiting, step_is_the_send}
+use Rattle.sender.proofs.Refines.{sent_formed}
+use Rattle.sender.proofs.Steps.{step_is_the_send}
 use Rattle.sender.specs.ByParts.{moved}
 use Rattle.sender.specs.Sender.{well_formed}
 use Rattle.sender.specs.declared.send.Step.{Step}
@@ -17,22 +16,17 @@ returns-then-has_nothing c =
     let loop = c.loop-sends in
     sym (done_when_idle c.args.limit loop.sends loop.self loop.part (2 * loop.sends) (sym c.if-has_nothing.ensures)) ∙ loop.invariant.0
 
-pub overflow_add-self : goal.overflow_add-self
-overflow_add-self c =
-    let s = c.loop-sends.self in
-    let f = formed s.queue (queue_formed s c.loop-sends.invariant.1) in
-    omega (arith, f.start, f.waiting, ap (λ (t : Step). t.freed) c.step-step.ensures, step_frees_waiting s)
-
 pub loop-sends-preserved : goal.loop-sends-preserved
 loop-sends-preserved c =
     let loop = c.loop-sends in
     let limit = c.args.limit in
     let s = loop.self in
-    let is_formed : well_formed s ≡ true = loop.invariant.1 in (
-      ap (λ (t : Step). comes_to limit (loop.sends + 1) (moved s t) (set (set loop.part (2 * loop.sends) t.pair.0) (2 * loop.sends + 1) t.pair.1) (2 * (loop.sends + 1))) c.step-step.ensures
+    let is_formed : well_formed s ≡ true = loop.invariant.1 in
+    let made = c.make.ensures ∙ ap (moved s) c.step-step.ensures in (
+      ap₂ (λ (x : Sender) (t : Step). comes_to limit (loop.sends + 1) x (set (set loop.part (2 * loop.sends) t.pair.0) (2 * loop.sends + 1) t.pair.1) (2 * (loop.sends + 1))) made c.step-step.ensures
           ∙ one_turn limit loop.sends s loop.part is_formed (omega arith) (omega arith) (sym c.if-has_nothing.ensures)
           ∙ loop.invariant.0,
-      ap (λ (t : Step). well_formed (moved s t)) c.step-step.ensures
+      ap well_formed made
           ∙ ap (λ (r : Outcome Pair × Sender). well_formed r.1) (step_is_the_send s is_formed)
           ∙ sent_formed s is_formed,
     )
