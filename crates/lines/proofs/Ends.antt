@@ -15,7 +15,6 @@ use Rattle.lines.specs.Pieces.{counted, end_by, end_refusal, ended_by, ending, o
 use Rattle.lines.specs.Put.{Placed, Puts, placed, put_all}
 use Rattle.lines.specs.Words.{last_line}
 use Rattle.lines.specs.declared.line.Line.{Line}
-use Rattle.lines.specs.declared.listing.EndError.{EndError}
 use Rattle.lines.specs.declared.listing.EndError.TheVariants as end
 use Rattle.lines.specs.declared.listing.Listing.{Listing}
 use Rattle.lines.specs.declared.put.Writer.{Writer}

@@ -26,6 +26,7 @@ fresh_listing = between_pairs fresh 0 0
 abbrev pub one_more : ℕ → ℕ
 one_more q = cond (leb q most_pairs) (q + 1) q
 
+-- the same where there is one
 abbrev pub one_more_if : Bool → ℕ → ℕ
 one_more_if one q = cond one (one_more q) q
 
@@ -47,7 +48,7 @@ ending l begun words q = record {
 abbrev pub refused_by : ℕ → Listing → Line → Listing
 refused_by n l begun = ending l begun (line l.pairs (refused_words n)) (one_more l.refused)
 
--- the refusals of the stream, by their numbers, and its end by one of them or by none
+-- what refuses the end of a stream, by its number, and the stream ended by it or by nothing
 abbrev pub end_number : EndError → ℕ
 end_number end.HalfAPair = 9
 end_number end.TooManyPairs = 10
