@@ -3,6 +3,7 @@
 -- Assumes nothing.
 use mathlib.Core.List.{List, [], ◌∷◌, ◌++◌, map}
 use Rattle.std.specs.Prelude.{Option, None, Some}
+use Rattle.std.specs.Option.{unwrap_or}
 use Rattle.std.proofs.lemmas.Option.{none-some, same_Some}
 use mathlib.Core.Path.{◌≡◌, refl, ap, sym, ◌∙◌}
 use Prim.Native.Nat.{ℕ, zero, suc, ◌-◌, ◌<◌}
@@ -17,17 +18,17 @@ use Rattle.code.specs.Letter.{letter_at}
 use Rattle.code.specs.Outcome.{answer, refused}
 use Rattle.code.specs.Position.{later, position}
 use Rattle.code.specs.Symbol.{symbol_at}
-use Rattle.code.specs.Tables.{code_entries, control_entries, or_zero, point_of}
+use Rattle.code.specs.Tables.{code_entries, control_entries, point_of}
 use Rattle.code.specs.declared.channel.Channel.{Channel}
 use Rattle.code.specs.declared.code.Code.TheVariants as code
 use Rattle.code.specs.declared.control.Control.TheVariants as control
 
 -- a character's place among the code points is its place among the characters
-same_test : (c : ℕ) (k : Option ℕ) → (c ≡ 0 → ⊥) → eqb c (or_zero k) ≡ is_point c k
+same_test : (c : ℕ) (k : Option ℕ) → (c ≡ 0 → ⊥) → eqb c (unwrap_or k 0) ≡ is_point c k
 same_test c (Some d) h = refl
 same_test c None h = ne_eqb c 0 h
 
-point_place : (c : ℕ) (l : List (Option ℕ)) → (c ≡ 0 → ⊥) → position c (map or_zero l) ≡ place_of c l
+point_place : (c : ℕ) (l : List (Option ℕ)) → (c ≡ 0 → ⊥) → position c (map (λ (k : Option ℕ). unwrap_or k 0) l) ≡ place_of c l
 point_place c [] h = refl
 point_place c (k ∷ l) h = rw (same_test c k h, point_place c l h) refl
 

@@ -1,6 +1,7 @@
 -- Preamble address codes, from 47 CFR 79.101 (d) and (h): fifteen rows, and sixteen styles with and without an
 -- underline. That rows are counted from 0, and refusals 3 and 8, are 01's.
 use Rattle.std.specs.Prelude.{Result, ℕ, ◌+◌, ◌-◌, ◌/◌, ◌%◌, Bool, true, false, cond, ◌&&◌, List, [], ◌∷◌, eqb, leb, ltb, get_or, Option, None, Some}
+use Rattle.std.specs.Option.{unwrap_or}
 use Rattle.code.specs.declared.preamble.NoSuchIndent.{NoSuchIndent}
 use Rattle.code.specs.declared.preamble.NoSuchRow.{NoSuchRow}
 use Rattle.code.specs.Color.{color_at, color_number}
@@ -97,12 +98,8 @@ abbrev pub row_in : PreambleAddressCode → ℕ
 row_in p = p.row
 
 -- colours and white italics start at the left
-abbrev pub column_of : Option ℕ → ℕ
-column_of (Some n) = n
-column_of None = 0
-
 abbrev pub column_in : PreambleAddressCode → ℕ
-column_in p = column_of (indent_in p.ty)
+column_in p = unwrap_or (indent_in p.ty) 0
 
 abbrev pub underline_in : PreambleAddressCode → Bool
 underline_in p = p.underline

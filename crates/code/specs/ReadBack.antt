@@ -2,6 +2,7 @@
 -- A control code, `Unknown` aside, keeps its channel and its control, and is read with the field that its bytes name; NUL
 -- and letters, two to a pair, stay as they were. proofs/ReadBack.antt proves them.
 use Rattle.std.specs.Prelude.{None, Option, Some, Bool, true, false, ◌≡◌}
+use Rattle.std.specs.Option.{unwrap_or}
 use Rattle.code.specs.Channel.{field_one}
 use Rattle.code.specs.Outcome.{answer}
 use Rattle.code.specs.Read.{is_command_pair, is_odd_pair, read_pair}
@@ -16,14 +17,10 @@ use Rattle.code.specs.declared.pair.Pair.{Pair}
 
 -- 14 20 to 14 2F are field one's and 15 20 to 15 2F field two's, so that such a command always names a field: its own, or
 -- field one where it has none. No other control names one.
-abbrev pub or_field_one : Option Field → Field
-or_field_one (Some f) = f
-or_field_one None = field_one
-
 abbrev pub field_read : Option Field → Control → Option Field
 field_read f (control.MidRow m) = None
 field_read f (control.Symbol s) = None
-field_read f (control.Command c) = Some (or_field_one f)
+field_read f (control.Command c) = Some (unwrap_or f field_one)
 field_read f (control.Tab t) = None
 field_read f (control.Preamble p) = None
 field_read f (control.Unknown a b) = None

@@ -2,6 +2,7 @@
 -- bytes above the low sixteen bits and its code point in them. `proofs/Meaning` and `proofs/TableRules` tie it to the
 -- definitions of `Read`, `Write` and `Characters`.
 use Rattle.std.specs.Prelude.{ℕ, suc, ◌+◌, ◌*◌, ◌-◌, ◌/◌, ◌%◌, cond, List, [], ◌∷◌, ◌++◌, map, eqb, ltb, get_or, replicate, Option, None, Some}
+use Rattle.std.specs.Option.{unwrap_or}
 use Rattle.code.specs.Characters.{standard, symbols, special, spanish, french, portuguese, german}
 use Rattle.code.specs.Control.{command_at, tab_of}
 use Rattle.code.specs.Letter.{letter_at}
@@ -23,11 +24,7 @@ bytes_of e = e / 65536
 abbrev pub point_of : ℕ → ℕ
 point_of e = e % 65536
 
--- 0 where there is none, and back
-abbrev pub or_zero : Option ℕ → ℕ
-or_zero (Some c) = c
-or_zero None = 0
-
+-- a character of a code point, which is 0 where there is none
 abbrev pub character_of : ℕ → Option ℕ
 character_of n = cond (eqb n 0) None (Some n)
 
@@ -41,7 +38,7 @@ two_bytes n = pair (n / 256) (n % 256)
 -- entries for these characters, the bytes rising by one from the first
 abbrev pub entries : ℕ → List (Option ℕ) → List ℕ
 entries bytes [] = []
-entries bytes (c ∷ cs) = (bytes * 65536 + or_zero c) ∷ entries (suc bytes) cs
+entries bytes (c ∷ cs) = (bytes * 65536 + unwrap_or c 0) ∷ entries (suc bytes) cs
 
 -- NUL, then 0x20 to 0x7F
 unfoldable pub code_entries : List ℕ
@@ -57,7 +54,7 @@ control_entries =
 
 -- the code points of the standard characters, then of the symbols
 abbrev pub all_points : List ℕ
-all_points = map or_zero (standard ++ symbols)
+all_points = map (λ (c : Option ℕ). unwrap_or c 0) (standard ++ symbols)
 
 abbrev pub code_at : ℕ → Code
 code_at i = cond (eqb i 0) code.Nul (code.Letter (letter_at (i - 1)))

@@ -1,7 +1,7 @@
 -- The presentation modes and the commands that begin them, from 47 CFR 79.101 (f): resume caption loading begins
 -- pop-on, resume direct captioning paint-on, and the three roll-up commands windows of two, three and four rows. End of
 -- caption puts a receiver into pop-on too; that it begins no mode here follows the crate.
-use Rattle.std.specs.Prelude.{ℕ, Bool, true, false, Option, None, Some}
+use Rattle.std.specs.Prelude.{ℕ, Bool, Option, None, Some, is_some}
 use Rattle.code.specs.declared.control.Command.{Command}
 use Rattle.code.specs.declared.control.Command.TheVariants as command
 use Rattle.event.specs.declared.mode.Mode.{Mode}
@@ -40,9 +40,5 @@ rollup_rows RollUp3 = Some 3
 rollup_rows RollUp4 = Some 4
 
 -- a mode is a roll-up mode where it has rows
-abbrev pub has_rows : Option ℕ → Bool
-has_rows (Some n) = true
-has_rows None = false
-
 abbrev pub is_rollup : Mode → Bool
-is_rollup m = has_rows (rollup_rows m)
+is_rollup m = is_some (rollup_rows m)

@@ -6,7 +6,7 @@ use borrow.Author.Tests.{leb-false, leb-true, not-true}
 use lib.ListN.{length}
 use mathlib.Core.Bool.{Bool, cond, false, not, true, true≢false}
 use mathlib.Core.List.{List, [], ◌∷◌}
-use Rattle.std.specs.Prelude.{Option, None, Some}
+use Rattle.std.specs.Prelude.{Option, None, Some, is_some}
 use mathlib.Core.Path.{◌≡◌, refl, ap, sym, subst, ◌∙◌}
 use native.Mathlib.Omega.{arith}
 use Rattle.code.proofs.Both.{both_true}
@@ -17,7 +17,7 @@ use Rattle.extended.proofs.Classes.{its_own_class, same_class_lem}
 use Rattle.extended.proofs.Ways.{Way, acts, corrupted, ends_in_captions, ends_without_packet, fills, finishes, continues, has_wrong_sum, heard_by, is_passed_over, is_text_lem, is_too_long, no_such_packet, starts, way_of, with_contents}
 use Rattle.extended.specs.Extended.{Read, Reader, Report, event, fresh, nothing, packet, read, reported, same_class}
 use Rattle.extended.specs.Packet.{Packet, most_contents}
-use Rattle.extended.specs.Reading.{Is, after, answers, is_some}
+use Rattle.extended.specs.Reading.{Is, after, answers}
 use Rattle.extended.specs.Reports.{Becomes, WasOpen, begun, ended, given_packet, more, reports, the_same, times_reported, too_long}
 use Rattle.extended.specs.SentWhole.{is_own_start, no_own_start}
 use Rattle.extended.specs.declared.class.Class.{Class}

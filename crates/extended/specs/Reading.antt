@@ -1,5 +1,5 @@
 -- Reading a list of pairs, in the port's own words: the fold of what a pair does, and what the laws say of pairs and answers.
-use Rattle.std.specs.Prelude.{ℕ, Bool, ◌&&◌, cond, false, not, true, List, [], ◌∷◌, ◌≡◌, Option, None, Some}
+use Rattle.std.specs.Prelude.{ℕ, Bool, ◌&&◌, cond, false, not, true, List, [], ◌∷◌, ◌≡◌, Option, None, Some, is_some}
 use Rattle.code.specs.Outcome.{Outcome, answer, refused}
 use Rattle.code.specs.Parity.{stripped}
 use Rattle.code.specs.Range.{within}
@@ -55,10 +55,6 @@ given_event (answer nothing) = None
 given_event (answer (event e)) = Some e
 given_event (answer (packet c t bs)) = None
 given_event (refused n) = None
-
-abbrev pub is_some : {A : Type 0} → Option A → Bool
-is_some None = false
-is_some (Some a) = true
 
 abbrev pub is_event : Outcome Report → Bool
 is_event o = is_some (given_event o)

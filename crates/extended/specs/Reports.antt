@@ -1,10 +1,10 @@
 -- What is reported of packets, and what becomes of one with a pair, for the laws. The port's own words.
-use Rattle.std.specs.Prelude.{ℕ, ◌+◌, ◌<◌, ◌≤◌, length, Bool, cond, true, List, [], ◌++◌, ◌∷◌, ◌≡◌, Option, None, Some}
+use Rattle.std.specs.Prelude.{ℕ, ◌+◌, ◌<◌, ◌≤◌, length, Bool, cond, true, List, [], ◌++◌, ◌∷◌, ◌≡◌, Option, None, Some, is_some}
 use Rattle.code.specs.Outcome.{Outcome, answer, refused}
 use Rattle.code.specs.declared.pair.Pair.{Pair}
 use Rattle.extended.specs.Extended.{Reader, Report, event, nothing, packet, same_class}
 use Rattle.extended.specs.Packet.{Packet, content_bytes, is_right_sum, most_contents}
-use Rattle.extended.specs.Reading.{Is, first, is_some, second}
+use Rattle.extended.specs.Reading.{Is, first, second}
 use Rattle.extended.specs.declared.class.Class.{Class}
 use Rattle.extended.specs.declared.part.Part.TheVariants as part
 use Rattle.extended.specs.declared.state.Running.TheVariants as running

@@ -1,7 +1,7 @@
 // The reading mode: captions by a receiver of their own, and a packet of each class.
 ghost use Rattle.std.specs.Prelude.{◌≡◌, None};
 ghost use Rattle.code.specs.Outcome.{answer};
-ghost use Rattle.extended.specs.State.{absent_packet, by_part_state, continued_state, ended_state, filled_state, fresh_state, given_by, given_outcome, opened_state, packet_at, place, received_outcome, set_captions, set_packet, started_state, step};
+ghost use Rattle.extended.specs.State.{absent_packet, by_part_state, continued_state, ended_state, filled_state, fresh_state, opened_state, packet_at, place, received_outcome, set_captions, set_packet, started_state, step};
 ghost use Rattle.extended.specs.Part.{part_of};
 
 use crate::class::Class;

@@ -98,7 +98,7 @@ enough_calls (room ∷ next ∷ rooms) r some few =
     ∙ enough_calls (next ∷ rooms) (after_piece r (one r room)) some.1 (fewer_left r room some.0 (length rooms) few)
     ∙ through_still r room
 
-end_is_ended : (l : Listing) → (ended_listing l).ended ≡ true
+pub end_is_ended : (l : Listing) → (ended_listing l).ended ≡ true
 unfolding ended_listing
 end_is_ended l = by_ended l.ended refl l.half
   where

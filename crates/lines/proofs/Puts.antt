@@ -10,9 +10,8 @@ use borrow.Author.Tests.{le-leb, leb-false, leb-true, lt-leb}
 use lib.Dec.{leb}
 use lib.ListN.{drop, drop_of_length-le, length, length-set, set, take, take-append-drop}
 use lib.Seq.{drop-drop, length-take-le, sets, sets-eq}
-use Rattle.lines.specs.Line.{over, says}
+use Rattle.lines.specs.Line.{over}
 use Rattle.lines.specs.Put.{Placed, Puts, placed, put_all, put_one}
-use Rattle.lines.specs.declared.line.Line.{Line}
 use Rattle.lines.specs.declared.put.Writer.{Writer}
 
 infixr 5 ◌then◌
@@ -106,7 +105,3 @@ as_far_as_room word count {w} {next} inside most puts =
 -- where the memory was taken back from a writer
 pub taken_back : (next : Writer) {memory : List ℕ} {s : Placed} → memory ≡ next.out.now → placed next ≡ s → ◌≡◌ {A = Placed} (next.at, memory) s
 taken_back next e so = ap {B = Placed} (λ (o : List ℕ). (next.at, o)) e ∙ so
-
--- words after words of a line are one word of it
-says_twice : (l : Line) (xs ys : List ℕ) → says (says l xs) ys ≡ says l (xs ++ ys)
-says_twice l xs ys = ap {B = Line} (λ (s : Placed). record { bytes = s.1; at = l.at; len = s.0 }) (sym (put_parts (l.len, l.bytes) xs ys))

@@ -22,7 +22,7 @@ between_pairs s k q = record { receiver = s; half = None; pairs = k; refused = q
 abbrev pub fresh_listing : Listing
 fresh_listing = between_pairs fresh 0 0
 
--- one refusal more; there is at most one beyond the limit of pairs
+-- one refusal or one packet more; refusals come to at most one beyond the limit of pairs
 abbrev pub one_more : ℕ → ℕ
 one_more q = cond (leb q most_pairs) (q + 1) q
 

@@ -15,7 +15,7 @@ use receiver::Cea608State;
 // A stream has at most so many pairs; one byte more is refused 10.
 pub const MOST_PAIRS: u32 = 16_777_216;
 
-// What refuses the end of a stream: half a pair, which is refused 9, or more pairs than the limit, refused 10.
+// By which refusal a stream ends: half a pair, 9, or more pairs than the limit, 10.
 #[derive(Clone, Copy, Debug, PartialEq, Eq)]
 pub enum EndError {
     HalfAPair = 9,

@@ -4,8 +4,8 @@ use mathlib.Core.List.{List, ◌++◌}
 use mathlib.Core.Path.{◌≡◌, ap, ap₂, ◌∙◌}
 use Prim.Native.Nat.{ℕ, ◌-◌, ◌≤◌, ◌<◌}
 use native.Mathlib.Omega.{arith}
-use lib.ListN.{drop, length, length-drop, take}
-use lib.Seq.{take_all}
+use lib.ListN.{drop, length, take}
+use Rattle.code.proofs.LentPart.{lent_part}
 use Rattle.lines.proofs.Called as called
 use Rattle.lines.proofs.ProgressLemmas.{output_begins_with}
 use Rattle.lines.proofs.Whole.{calls_add_up, through_if_not_full}
@@ -18,7 +18,7 @@ module _ (l : Listing) (input output : List ℕ) (p : Listing × Progress) (afte
   left = take (length input - p.1.taken) (drop p.1.taken input)
 
   left_is : left ≡ drop p.1.taken input
-  left_is = take_all (length input - p.1.taken) (drop p.1.taken input) (omega (arith, length-drop p.1.taken input))
+  left_is = lent_part input p.1.taken
 
   pub ends_the_same : (whole_piece p.0 left).next ≡ (whole_piece l input).next
   ends_the_same =

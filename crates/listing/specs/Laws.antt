@@ -3,14 +3,13 @@ use Prim.Native.Nat.{ℕ}
 use mathlib.Core.Bool.{Bool, true, false, cond, true≢false}
 use mathlib.Core.List.{List, [], ◌∷◌, ◌++◌}
 use mathlib.Core.Path.{◌≡◌, refl, ap, ap₂, sym, ◌∙◌}
-use Rattle.lines.proofs.Loops.{read_in_blocks}
+use Rattle.lines.proofs.Loops.{end_is_ended, read_in_blocks}
 use Rattle.lines.proofs.Memory.{written_and_waiting}
 use Rattle.lines.proofs.Waiting.{empty_where_no_more}
 use Rattle.lines.specs.Line.{empty_line, has_more, pending}
 use Rattle.lines.specs.Listing.{listing}
 use Rattle.lines.specs.Loops.{in_blocks}
 use Rattle.lines.specs.Pieces.{Piece, absorbed, after_byte, end_by, ended_listing, is_done, whole_piece, with_line, written_out}
-use Rattle.std.specs.Prelude.{Option, Some, None}
 use Rattle.lines.specs.declared.listing.Listing.{Listing}
 use Rattle.listing.specs.Blocks.{after_block, block_text, done, fresh}
 use Rattle.listing.specs.declared.Pairs.{Pairs}
@@ -31,15 +30,6 @@ any_cutting blocks some =
     let all = as_blocks blocks fresh some in
     ap₂ (λ (xs : List ℕ) (l : Listing). xs ++ (whole_piece (ended_listing l) []).text) all.1 all.0
     ∙ (read_in_blocks blocks).writes_all
-
-end_is_ended : (l : Listing) → (ended_listing l).ended ≡ true
-unfolding ended_listing
-end_is_ended l = by_ended l.ended refl l.half
-  where
-    by_ended : (t : Bool) → l.ended ≡ t → (h : Option ℕ) → (cond t l (end_by l h)).ended ≡ true
-    by_ended true e h = e
-    by_ended false e None = refl
-    by_ended false e (Some x) = refl
 
 pub ends_done : EndsDone after_block done
 ends_done p = end_is_ended p.0

@@ -68,7 +68,7 @@ end_says l sound = by l.ended refl
     by true e = done_is_silent l [] e
     by false e = the_end_says l e (sound e)
 
-end_is_done : (l : PacketListing) → (whole_end l).next.ended ≡ true
+pub end_is_done : (l : PacketListing) → (whole_end l).next.ended ≡ true
 end_is_done l = by l.ended refl
   where
     by : (t : Bool) → l.ended ≡ t → (cond t (stays l) (said_only (of_end l))).next.ended ≡ true

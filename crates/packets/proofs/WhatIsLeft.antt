@@ -5,11 +5,11 @@ use Prim.Native.Nat.{ℕ, ◌+◌, ◌-◌, ◌≤◌, ◌<◌}
 use borrow.Author.Tests.{le-ltb}
 use lib.Dec.{ltb}
 use lib.ListN.{drop, length, length-drop, take}
-use lib.Seq.{take_all}
 use mathlib.Core.Bool.{Bool, true, false, cond}
 use mathlib.Core.List.{List, [], ◌∷◌, ◌++◌, append_assoc}
 use mathlib.Core.Path.{◌≡◌, refl, ap, ap₂, sym, ◌∙◌}
 use native.Mathlib.Omega.{arith}
+use Rattle.code.proofs.LentPart.{lent_part}
 use Rattle.lines.proofs.AnyCutting.{drop_more}
 use Rattle.lines.proofs.ProgressLemmas.{output_begins_with}
 use Rattle.packet_lines.proofs.Called as called
@@ -48,7 +48,7 @@ module _ (l : PacketListing) (input output : List ℕ) (p : PacketListing × Pro
   left = take (length input - p.1.taken) (drop p.1.taken input)
 
   left_is : left ≡ drop p.1.taken input
-  left_is = take_all (length input - p.1.taken) (drop p.1.taken input) (omega (arith, length-drop p.1.taken input))
+  left_is = lent_part input p.1.taken
 
   pub ends_the_same : (whole_piece p.0 left).next ≡ (whole_piece l input).next
   ends_the_same =

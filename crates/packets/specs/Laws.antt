@@ -1,9 +1,9 @@
 -- The laws of the packets in blocks: they are the same wherever the stream is cut, the end ends it, and nothing comes after it.
 use Prim.Native.Nat.{ℕ}
-use mathlib.Core.Bool.{Bool, true, false, cond}
+use mathlib.Core.Bool.{Bool, cond}
 use mathlib.Core.List.{List, [], ◌∷◌, ◌++◌}
 use mathlib.Core.Path.{◌≡◌, refl, ap, ap₂, ◌∙◌}
-use Rattle.packet_lines.proofs.Blocks.{read_in_blocks}
+use Rattle.packet_lines.proofs.Blocks.{end_is_done, read_in_blocks}
 use Rattle.packet_lines.specs.Blocks.{in_blocks, whole_end, whole_piece}
 use Rattle.packet_lines.specs.Packets.{packet_lines}
 use Rattle.packet_lines.specs.Pieces.{Piece, after_byte, of_byte, of_end, said_only, stays}
@@ -28,11 +28,7 @@ any_cutting blocks some =
     ap₂ (λ (xs : List ℕ) (l : PacketListing). xs ++ (whole_end l).text) all.1 all.0 ∙ (read_in_blocks blocks).writes_all
 
 pub ends_done : EndsDone after_block done
-ends_done p = by p.0.ended refl
-  where
-    by : (t : Bool) → p.0.ended ≡ t → (cond t (stays p.0) (said_only (of_end p.0))).next.ended ≡ true
-    by true e = e
-    by false e = refl
+ends_done p = end_is_done p.0
 
 pub stays_done : StaysDone after_block block_text done
 stays_done p [] e =

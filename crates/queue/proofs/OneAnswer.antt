@@ -6,7 +6,7 @@ use Prim.Native.Nat.{ℕ}
 use lib.Dec.{eqb}
 use Rattle.code.proofs.OneAnswer.{Injective, beside_injective, outcome_injective}
 use Rattle.queue.specs.Entry.{entry_outcome}
-use Rattle.queue.specs.Ring.{count_answer_outcome, count_outcome, pop_answer_outcome, pop_outcome, push_answer_outcome, push_outcome, push_refusal}
+use Rattle.queue.specs.Ring.{count_outcome, formed_outcome, pop_outcome, push_answer_outcome, push_outcome, push_refusal}
 use Rattle.queue.specs.declared.push.PushError.{PushError}
 use Rattle.queue.specs.declared.push.PushError.TheVariants as push_error
 
@@ -33,17 +33,14 @@ push_answer_injective = outcome_injective push_refusal push_refusals_apart
 pub push_injective : Injective push_outcome
 push_injective = beside_injective push_answer_outcome push_answer_injective
 
-pub pop_answer_injective : Injective pop_answer_outcome
-pop_answer_injective = outcome_injective (λ e. 12) (λ d f e. refl)
+pub formed_injective : {A : Type 0} → Injective (formed_outcome {A = A})
+formed_injective = outcome_injective (λ e. 12) (λ d f e. refl)
 
 pub pop_injective : Injective pop_outcome
-pop_injective = beside_injective pop_answer_outcome pop_answer_injective
-
-pub count_answer_injective : Injective count_answer_outcome
-count_answer_injective = outcome_injective (λ e. 12) (λ d f e. refl)
+pop_injective = beside_injective formed_outcome formed_injective
 
 pub count_injective : Injective count_outcome
-count_injective = beside_injective count_answer_outcome count_answer_injective
+count_injective = beside_injective formed_outcome formed_injective
 
 -- what a push stores
 pub entry_injective : Injective entry_outcome

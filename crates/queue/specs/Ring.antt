@@ -115,14 +115,12 @@ push_answer_outcome r = outcome push_refusal r
 abbrev pub push_outcome : Queue × Result Unit PushError → Outcome Unit × Queue
 push_outcome r = (push_answer_outcome r.1, r.0)
 
-abbrev pub pop_answer_outcome : Result Pair IllFormed → Outcome Pair
-pop_answer_outcome r = outcome (λ e. 12) r
+-- of a call that refuses 12 alone
+abbrev pub formed_outcome : {A : Type 0} → Result A IllFormed → Outcome A
+formed_outcome r = outcome (λ e. 12) r
 
 abbrev pub pop_outcome : Queue × Result Pair IllFormed → Outcome Pair × Queue
-pop_outcome r = (pop_answer_outcome r.1, r.0)
-
-abbrev pub count_answer_outcome : Result ℕ IllFormed → Outcome ℕ
-count_answer_outcome r = outcome (λ e. 12) r
+pop_outcome r = (formed_outcome r.1, r.0)
 
 abbrev pub count_outcome : Queue × Result ℕ IllFormed → Outcome ℕ × Queue
-count_outcome r = (count_answer_outcome r.1, r.0)
+count_outcome r = (formed_outcome r.1, r.0)

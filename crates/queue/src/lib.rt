@@ -13,5 +13,5 @@ pub mod well_formed;
 
 pub use pop::Turn;
 pub use push::PushError;
-pub use ring::{PLACES, Queue};
+pub use ring::Queue;
 pub use well_formed::IllFormed;

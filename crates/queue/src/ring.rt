@@ -4,7 +4,7 @@ ghost use Rattle.std.specs.Prelude.{◌≡◌};
 ghost use Rattle.queue.specs.Ring.{fresh_ring};
 
 // How many places the ring has, and so how many codes may wait.
-pub const PLACES: usize = 64;
+pub(crate) const PLACES: usize = 64;
 
 // The waiting codes stand from `start` on, and wrap around to place 0 at the end. The held code is a command that the
 // next pop sends, since the pair before it carried the single code or space that precedes it. The memory is fixed: there is no

@@ -3,18 +3,17 @@
 -- Assumes nothing.
 use mathlib.Core.Bool.{Bool, ◌&&◌, not}
 use Rattle.std.specs.Prelude.{Option, None, Some, is_some}
-use mathlib.Core.Path.{◌≡◌, refl, ap, ap₂, sym, ◌∙◌}
+use mathlib.Core.Path.{◌≡◌, refl, ap, sym, ◌∙◌}
 use Prim.Native.Nat.{ℕ, zero, suc, ◌+◌}
 use native.Mathlib.Omega.{arith}
 use borrow.Author.Tests.{ne_eqb}
 use lib.Dec.{eqb}
 use lib.ListN.{length}
-use Rattle.code.specs.declared.pair.Pair.{Pair}
 use Rattle.queue.proofs.Places.{how_many_lem}
 use Rattle.queue.specs.Queue.{held_codes}
 use Rattle.queue.specs.Ring.{held_in}
 use Rattle.sender.specs.Sender.{view}
-use Rattle.sender.specs.Sending.{is_absent, is_idle, none_owed}
+use Rattle.sender.specs.Sending.{is_idle, none_owed}
 use Rattle.sender.specs.declared.sender.Sender.{Sender}
 
 -- no code at all: none waits and none is held
@@ -25,11 +24,7 @@ no_codes (suc n) h =
     ne_eqb (suc n + length (held_codes (held_in h))) 0 (λ e. omega (arith, e))
     ∙ sym (ap (λ (t : Bool). t && not (is_some h)) (ne_eqb (suc n) 0 (λ e. omega (arith, e))))
 
-no_pair : (o : Option Pair) → is_absent o ≡ not (is_some o)
-no_pair None = refl
-no_pair (Some p) = refl
-
 pub idle_by_parts : (s : Sender) → is_idle (view s) ≡ (eqb s.queue.waiting 0 && not (is_some s.queue.held) && not (is_some s.repeats.owed))
 idle_by_parts s =
     ap (λ (n : ℕ). eqb (n + length (held_codes (held_in s.queue.held))) 0 && none_owed s.repeats) (how_many_lem s.queue.places s.queue.start s.queue.waiting)
-    ∙ ap₂ (λ (t u : Bool). t && u) (no_codes s.queue.waiting s.queue.held) (no_pair s.repeats.owed)
+    ∙ ap (λ (t : Bool). t && none_owed s.repeats) (no_codes s.queue.waiting s.queue.held)

@@ -8,10 +8,10 @@ use native.Mathlib.Omega.{arith}
 use Rattle.std.specs.Prelude.{Result}
 use Rattle.code.proofs.OneAnswer.{Injective, beside_injective, outcome_injective}
 use Rattle.code.specs.Outcome.{Outcome}
-use Rattle.queue.proofs.OneAnswer.{count_answer_injective, pop_answer_injective, push_answer_injective}
-use Rattle.queue.specs.Ring.{count_answer_outcome, pop_answer_outcome, push_answer_outcome}
+use Rattle.queue.proofs.OneAnswer.{formed_injective, push_answer_injective}
+use Rattle.queue.specs.Ring.{formed_outcome, push_answer_outcome}
 use Rattle.sender.specs.Drain.{drain_answer_outcome, drain_outcome, drain_refusal}
-use Rattle.sender.specs.Sender.{count_outcome, idle_answer_outcome, idle_outcome, push_outcome, send_outcome}
+use Rattle.sender.specs.Sender.{count_outcome, idle_outcome, push_outcome, send_outcome}
 use Rattle.sender.specs.declared.drain.DrainError.{DrainError}
 use Rattle.sender.specs.declared.drain.DrainError.TheVariants.{StartPastEnd, IllFormed}
 use Rattle.sender.specs.declared.sender.Sender.{Sender}
@@ -21,14 +21,14 @@ pub push_injective : Injective push_outcome
 push_injective = beside_injective push_answer_outcome push_answer_injective
 
 pub send_injective : Injective send_outcome
-send_injective = beside_injective pop_answer_outcome pop_answer_injective
+send_injective = beside_injective formed_outcome formed_injective
 
 pub count_injective : Injective count_outcome
-count_injective = beside_injective count_answer_outcome count_answer_injective
+count_injective = beside_injective formed_outcome formed_injective
 
 -- whether idle
 pub idle_injective : Injective idle_outcome
-idle_injective = beside_injective idle_answer_outcome (outcome_injective (λ e. 12) (λ d f e. refl))
+idle_injective = beside_injective formed_outcome formed_injective
 
 drain_refusals_apart : Injective drain_refusal
 drain_refusals_apart StartPastEnd StartPastEnd e = refl

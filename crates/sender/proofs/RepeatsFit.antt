@@ -12,7 +12,7 @@ use Rattle.code.specs.Read.{is_command_pair, is_odd_pair}
 use Rattle.code.specs.declared.code.Code.{Code}
 use Rattle.code.specs.declared.pair.Pair.{Pair}
 use Rattle.queue.proofs.Refines as ring
-use Rattle.queue.specs.Ring.{count_answer_outcome, count_outcome, count_ring, push_answer_outcome, push_outcome, push_ring}
+use Rattle.queue.specs.Ring.{count_outcome, count_ring, formed_outcome, push_answer_outcome, push_outcome, push_ring}
 use Rattle.queue.specs.Ring as queue
 use Rattle.queue.specs.declared.push.PushError.{PushError}
 use Rattle.queue.specs.declared.ring.Queue.{Queue}
@@ -63,7 +63,7 @@ count_by s false e fits = ap (counted_by s) (ring.ill_formed_count s.queue e) �
 count_is_the_queue's : (s : Sender) → repeats_fit s.repeats ≡ true → ((count_ring s.queue).0, s) ≡ count_sender s
 count_is_the_queue's s fits = count_by s (queue.well_formed s.queue) refl fits
 
-pub counted_by_queue : (s : Sender) (r : Result ℕ IllFormed) → repeats_fit s.repeats ≡ true → count_outcome (s.queue, r) ≡ count_ring s.queue → (count_answer_outcome r, s) ≡ count_sender s
+pub counted_by_queue : (s : Sender) (r : Result ℕ IllFormed) → repeats_fit s.repeats ≡ true → count_outcome (s.queue, r) ≡ count_ring s.queue → (formed_outcome r, s) ≡ count_sender s
 counted_by_queue s r fits counted = ap (counted_by s) counted ∙ count_is_the_queue's s fits
 
 -- where it does not fit, both are refused

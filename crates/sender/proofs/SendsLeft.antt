@@ -33,7 +33,8 @@ use Rattle.sender.specs.Drain.{send_sender_times}
 use Rattle.sender.specs.Good.{Good}
 use Rattle.sender.specs.Sender.{idle_sender, send_sender, view}
 use Rattle.sender.specs.SendsLeft.{copies, sends_for, sends_for_held, sends_left, spaces}
-use Rattle.sender.specs.Sending.{Sending, Source, ahead, is_absent, is_idle, none_owed, owed_pairs, pops, repeats_after, send, send_from, send_times, source, source_by, still_owed}
+use Rattle.std.specs.Option.{is_none}
+use Rattle.sender.specs.Sending.{Sending, Source, ahead, is_idle, none_owed, owed_pairs, pops, repeats_after, send, send_from, send_times, source, source_by, still_owed}
 use Rattle.sender.specs.declared.sender.Sender.{Sender}
 
 -- what is owed after a pair that begins with a code is the second of its copies
@@ -99,7 +100,7 @@ nothing_waits [] None e = refl
 nothing_waits [] (Some c) e = absurd (true≢false (sym e))
 nothing_waits (x ∷ l) h e = absurd (true≢false (sym e ∙ ne_eqb (count (queued (x ∷ l) h)) 0 (λ (z : count (queued (x ∷ l) h) ≡ 0). omega (arith, z))))
 
-nothing_owed : (o : Option Pair) → is_absent o ≡ true → o ≡ None
+nothing_owed : (o : Option Pair) → is_none o ≡ true → o ≡ None
 nothing_owed None e = refl
 nothing_owed (Some p) e = absurd (true≢false (sym e))
 

@@ -12,7 +12,7 @@ use Rattle.queue.proofs.Turns.{turn_is_the_pop, turn_leaves}
 use Rattle.queue.proofs.WellFormed.{formed}
 use Rattle.queue.specs.Ring.{pop_ring}
 use Rattle.queue.specs.Ring as queue
-use Rattle.queue.specs.Turn.{freeing, turn_in}
+use Rattle.queue.specs.Turn.{freeing, moved_on, turn_in}
 use Rattle.queue.specs.declared.ring.Queue.{Queue}
 use Rattle.sender.proofs.Refines.{ill_formed_send, queue_formed, sent_as}
 use Rattle.sender.specs.ByParts.{moved, step_by, step_in}
@@ -22,7 +22,7 @@ use Rattle.sender.specs.declared.send.Step.{Step}
 use Rattle.sender.specs.declared.sender.Sender.{Sender}
 
 -- no place is freed: the queue as it was
-same_queue : (q : Queue) → q.start < 64 → ◌≡◌ {A = Queue} (record { places = q.places; start = (q.start + 0) % 64; waiting = q.waiting - 0; held = q.held }) q
+same_queue : (q : Queue) → q.start < 64 → moved_on q 0 q.held ≡ q
 same_queue q less =
     let start : (q.start + 0) % 64 ≡ q.start = omega (arith, less) in
     let waiting : q.waiting - 0 ≡ q.waiting = omega arith in

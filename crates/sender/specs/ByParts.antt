@@ -1,12 +1,12 @@
 -- Contracts of helpers inside the crate, in the port's own words: a send by the parts of a state, and the writer of pairs
 -- that the drain lends a part of the output to.
-use Rattle.std.specs.Prelude.{ℕ, ◌+◌, ◌-◌, ◌%◌, List, length, Option}
+use Rattle.std.specs.Prelude.{ℕ, ◌+◌, List, length, Option}
 use Rattle.code.specs.declared.pair.Pair.{Pair}
 use Rattle.queue.specs.Ring.{number_at}
-use Rattle.queue.specs.Turn.{turn_of}
+use Rattle.queue.specs.Turn.{moved_on, turn_of}
 use Rattle.queue.specs.declared.pop.Turn.{Turn}
 use Rattle.sender.specs.Drain.{drained_pairs, filled, send_sender_times}
-use Rattle.sender.specs.Sender.{view}
+use Rattle.sender.specs.Sender.{sender, view}
 use Rattle.sender.specs.Sending.{Source, ahead, no_repeat, pops, repeats_after, source_by}
 use Rattle.sender.specs.declared.send.Step.{Step}
 use Rattle.sender.specs.declared.sender.Repeats.{Repeats}
@@ -26,15 +26,7 @@ step_in s =
     step_of (number_at s.queue.places s.queue.start) (number_at s.queue.places (s.queue.start + 1)) s.queue.waiting s.queue.held s.repeats
 
 abbrev pub moved : Sender → Step → Sender
-moved s t = record {
-  queue = record {
-    places = s.queue.places;
-    start = (s.queue.start + t.freed) % 64;
-    waiting = s.queue.waiting - t.freed;
-    held = t.held;
-  };
-  repeats = t.repeats;
-}
+moved s t = sender (moved_on s.queue t.freed t.held) t.repeats
 
 -- the sends of these pairs: their count, the state after them, and the part with the pairs at its beginning
 abbrev pub filled_by : Sender → List ℕ → List Pair → ℕ × Sender × List ℕ

@@ -1,12 +1,12 @@
 -- The sender's state: which lists it stands for, which states are well formed (01's refusal 12), and the state that each
 -- call leaves. The answers are the lists', from `Sending`.
 use Rattle.std.specs.Prelude.{ℕ, Bool, true, cond, ◌&&◌, Option, None, Some, Result}
-use Rattle.code.specs.Outcome.{Outcome, answer, outcome, refused}
+use Rattle.code.specs.Outcome.{Outcome, answer, refused}
 use Rattle.code.specs.Read.{is_command_pair, is_odd_pair}
 use Rattle.code.specs.declared.code.Code.{Code}
 use Rattle.code.specs.declared.pair.Pair.{Pair}
 use Rattle.queue.specs.Queue.{count}
-use Rattle.queue.specs.Ring.{count_answer_outcome, fresh_ring, pop_answer_outcome, pop_ring, push_answer_outcome, push_ring}
+use Rattle.queue.specs.Ring.{formed_outcome, fresh_ring, pop_ring, push_answer_outcome, push_ring}
 use Rattle.queue.specs.Ring as ring
 use Rattle.queue.specs.declared.push.PushError.{PushError}
 use Rattle.queue.specs.declared.ring.Queue.{Queue}
@@ -68,13 +68,10 @@ abbrev pub push_outcome : Sender × Result Unit PushError → Outcome Unit × Se
 push_outcome r = (push_answer_outcome r.1, r.0)
 
 abbrev pub send_outcome : Sender × Result Pair IllFormed → Outcome Pair × Sender
-send_outcome r = (pop_answer_outcome r.1, r.0)
+send_outcome r = (formed_outcome r.1, r.0)
 
 abbrev pub count_outcome : Sender × Result ℕ IllFormed → Outcome ℕ × Sender
-count_outcome r = (count_answer_outcome r.1, r.0)
-
-abbrev pub idle_answer_outcome : Result Bool IllFormed → Outcome Bool
-idle_answer_outcome r = outcome (λ e. 12) r
+count_outcome r = (formed_outcome r.1, r.0)
 
 abbrev pub idle_outcome : Sender × Result Bool IllFormed → Outcome Bool × Sender
-idle_outcome r = (idle_answer_outcome r.1, r.0)
+idle_outcome r = (formed_outcome r.1, r.0)

@@ -1,6 +1,7 @@
 -- The sender as lists: the queue, and what is to be repeated. From 01's section "Queue and sender". That a command is sent
 -- twice is 47 CFR 79.101 (i)(1)'s; that text is not, and when the repeat goes out, are 01's.
-use Rattle.std.specs.Prelude.{ℕ, zero, suc, Bool, true, false, cond, ◌&&◌, List, [], ◌∷◌, eqb, Option, None, Some}
+use Rattle.std.specs.Prelude.{ℕ, zero, suc, Bool, cond, ◌&&◌, List, [], ◌∷◌, eqb, Option, None, Some}
+use Rattle.std.specs.Option.{is_none}
 use Rattle.code.specs.Outcome.{Outcome}
 use Rattle.code.specs.Read.{is_command_pair}
 use Rattle.code.specs.declared.code.Code.{Code}
@@ -23,12 +24,8 @@ no_repeat = record { owed = None }
 abbrev pub repeating : Pair → Repeats
 repeating p = record { owed = Some p }
 
-abbrev pub is_absent : Option Pair → Bool
-is_absent None = true
-is_absent (Some p) = false
-
 abbrev pub none_owed : Repeats → Bool
-none_owed r = is_absent r.owed
+none_owed r = is_none r.owed
 
 -- the repeat that is still to come, if any
 abbrev pub owed_pairs : Option Pair → List Pair

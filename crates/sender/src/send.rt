@@ -49,7 +49,7 @@ impl Sender {
         }
     }
 
-    // Makes a step, in place. A pop of the queue would do the same, and copy the ring once more.
+    // Makes a step, in place. Where its pair is the queue's a pop would do the same, and copy the ring once more.
     pub(crate) fn make(&mut self, step: Step)
         ensures { self.new ≡ moved self.old step }
     {

@@ -8,8 +8,8 @@ use std::io::{ErrorKind, Write};
 // Room for each name of a file that Linux takes.
 pub(crate) const NAME_ROOM: usize = 4096;
 
-// Linux's numbers of errors: one for what has no number here, one for a longer name, and one for a name that std does not
-// take.
+// Linux's numbers of errors: of an error that has no number here, of a name longer than that, and of a name that is not
+// UTF-8, which std does not take.
 const INPUT_OUTPUT: i32 = 5;
 
 const NAME_TOO_LONG: i32 = 36;
