@@ -2,46 +2,20 @@
 -- before its text. And a block of no bytes, which is the end.
 -- Assumes nothing.
 use Prim.Native.Nat.{ℕ, ◌+◌, ◌-◌, ◌≤◌, ◌<◌}
-use borrow.Author.Tests.{le-ltb}
-use lib.Dec.{ltb}
 use lib.ListN.{drop, length, length-drop, take}
-use mathlib.Core.Bool.{Bool, true, false, cond}
-use mathlib.Core.List.{List, [], ◌∷◌, ◌++◌, append_assoc}
-use mathlib.Core.Path.{◌≡◌, refl, ap, ap₂, sym, ◌∙◌}
+use mathlib.Core.Bool.{false}
+use mathlib.Core.List.{List, [], ◌∷◌, ◌++◌}
+use mathlib.Core.Path.{◌≡◌, refl, ap, ap₂, ◌∙◌}
 use native.Mathlib.Omega.{arith}
 use Rattle.code.proofs.LentPart.{lent_part}
-use Rattle.lines.proofs.AnyCutting.{drop_more}
 use Rattle.lines.proofs.ProgressLemmas.{output_begins_with}
 use Rattle.packet_lines.proofs.Called as called
 use Rattle.packet_lines.specs.Blocks.{whole_end, whole_piece}
-use Rattle.packet_lines.specs.Pieces.{Piece, Read, after_byte, any_text, end_of, end_packets, of_byte, of_end, piece_of, read_outcome, read_packets, said_only, stays}
+use Rattle.packet_lines.specs.Pieces.{Piece, Read, any_text, end_of, end_packets, piece_of, read_outcome, read_packets}
 use Rattle.packet_lines.specs.declared.listing.PacketListing.{PacketListing}
 use Rattle.lines.specs.declared.listing.Progress.{Progress}
 use Rattle.packets.specs.Blocks.{after_block, block_text}
 use Rattle.packets.specs.declared.Packets.{Packets}
-
--- the text of an input: the same in one piece, and in two
-says_on : (input : List ℕ) (l : PacketListing) (room : ℕ) → (piece_of l input room).text ++ (whole_piece (piece_of l input room).next (drop (piece_of l input room).taken input)).text ≡ (whole_piece l input).text
-says_on [] l room = refl
-says_on (a ∷ rest) l room =
-    unless_stopped l.ended refl (ltb room any_text) (says_on rest (of_byte l a).next (room - length (of_byte l a).text))
-  where
-    later : Piece
-    later = piece_of (of_byte l a).next rest (room - length (of_byte l a).text)
-
-    unless_stopped : (ended : Bool) → l.ended ≡ ended → (full : Bool) → later.text ++ (whole_piece later.next (drop later.taken rest)).text ≡ (whole_piece (of_byte l a).next rest).text → (cond (cond ended true full) (stays l) (after_byte (of_byte l a) later)).text ++ (whole_piece (cond (cond ended true full) (stays l) (after_byte (of_byte l a) later)).next (drop (cond (cond ended true full) (stays l) (after_byte (of_byte l a) later)).taken (a ∷ rest))).text ≡ (whole_piece l (a ∷ rest)).text
-    unless_stopped true e full next = refl
-    unless_stopped false e true next = refl
-    unless_stopped false e false next =
-        append_assoc (of_byte l a).text later.text (whole_piece later.next (drop (later.taken + 1) (a ∷ rest))).text
-        ∙ ap (λ (xs : List ℕ). (of_byte l a).text ++ xs)
-        (ap (λ (xs : List ℕ). later.text ++ (whole_piece later.next xs).text) (drop_more later.taken a rest) ∙ next)
-        ∙ sym (ap (λ (t : Bool). (cond t (stays l) (after_byte (of_byte l a) (whole_piece (of_byte l a).next rest))).text) e)
-
-pub done_says_nothing : (l : PacketListing) (input : List ℕ) → l.ended ≡ true → (whole_piece l input).text ≡ []
-done_says_nothing l [] e = refl
-done_says_nothing l (a ∷ rest) e =
-    ap (λ (t : Bool). (cond t (stays l) (after_byte (of_byte l a) (whole_piece (of_byte l a).next rest))).text) e
 
 module _ (l : PacketListing) (input output : List ℕ) (p : PacketListing × Progress) (after : List ℕ) (promised : read_outcome p after ≡ read_packets l input output) where
   abbrev left : List ℕ
@@ -60,7 +34,7 @@ module _ (l : PacketListing) (input output : List ℕ) (p : PacketListing × Pro
       ap₂ (λ (xs ys : List ℕ). xs ++ ys)
       (ap₂ (λ (n : ℕ) (xs : List ℕ). take n xs) (ap (λ (x : Read). x.1) promised) (ap (λ (x : Read). x.3) promised) ∙ output_begins_with (piece_of l input (length output)).text output)
       (ap (λ (xs : List ℕ). (whole_piece p.0 xs).text) left_is ∙ ap₂ (λ (x : PacketListing) (n : ℕ). (whole_piece x (drop n input)).text) (ap (λ (x : Read). x.2) promised) (ap (λ (x : Read). x.0) promised))
-      ∙ says_on input l (length output)
+      ∙ ap (λ (x : Piece). x.text) (called.calls_add_up input l (length output))
 
   pub is_less : l.ended ≡ false → any_text ≤ length output → 0 < length input → length left < length input
   is_less on room some =
@@ -71,12 +45,7 @@ unfolding end_packets
 end_says l output p after promised room =
     ap₂ (λ (n : ℕ) (xs : List ℕ). take n xs) (ap (λ (x : Read). x.1) promised) (ap (λ (x : Read). x.3) promised)
     ∙ output_begins_with (end_of l (length output)).text output
-    ∙ ap (λ (full : Bool). (cond (cond l.ended true full) (stays l) (said_only (of_end l))).text) (le-ltb (length output) any_text room)
-    ∙ by l.ended
-  where
-    by : (t : Bool) → (cond (cond t true false) (stays l) (said_only (of_end l))).text ≡ (cond t (stays l) (said_only (of_end l))).text
-    by true = refl
-    by false = refl
+    ∙ ap (λ (x : Piece). x.text) (called.end_fits l (length output) room)
 
 pub after_no_bytes : (p : Packets) (block : List ℕ) → length block ≡ 0 → (whole_end p.0).next ≡ (after_block p block).0
 after_no_bytes p [] none = refl

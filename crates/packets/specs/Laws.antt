@@ -3,10 +3,11 @@ use Prim.Native.Nat.{ℕ}
 use mathlib.Core.Bool.{Bool, cond}
 use mathlib.Core.List.{List, [], ◌∷◌, ◌++◌}
 use mathlib.Core.Path.{◌≡◌, refl, ap, ap₂, ◌∙◌}
+use Rattle.packet_lines.proofs.Called.{where_ended}
 use Rattle.packet_lines.proofs.Blocks.{end_is_done, read_in_blocks}
 use Rattle.packet_lines.specs.Blocks.{in_blocks, whole_end, whole_piece}
 use Rattle.packet_lines.specs.Packets.{packet_lines}
-use Rattle.packet_lines.specs.Pieces.{Piece, after_byte, of_byte, of_end, said_only, stays}
+use Rattle.packet_lines.specs.Pieces.{Piece, of_end, said_only, stays}
 use Rattle.packet_lines.specs.declared.listing.PacketListing.{PacketListing}
 use Rattle.packets.specs.Blocks.{after_block, block_text, done, fresh}
 use Rattle.packets.specs.declared.Packets.{Packets}
@@ -35,5 +36,5 @@ stays_done p [] e =
     let so = ap (λ (t : Bool). cond t (stays p.0) (said_only (of_end p.0))) e in
     (ap (λ (x : Piece). x.text) so, ap (λ (x : Piece). x.next.ended) so ∙ e)
 stays_done p (a ∷ rest) e =
-    let so = ap (λ (t : Bool). cond t (stays p.0) (after_byte (of_byte p.0 a) (whole_piece (of_byte p.0 a).next rest))) e in
+    let so = where_ended p.0 (a ∷ rest) e in
     (ap (λ (x : Piece). x.text) so, ap (λ (x : Piece). x.next.ended) so ∙ e)

@@ -2,10 +2,11 @@ use Rattle.std.proofs.Common.{arith, ap, sym, ◌∙◌, ◌++◌, ℕ, List, ap
 use Rattle.std.proofs.KnownBytes.{Appends-trans}
 use Rattle.std.specs.Io.KnownBytes.{Appends}
 use Rattle.packet_lines.proofs.Called as called
+use Rattle.packet_lines.specs.Pieces.{Piece}
 use Rattle.packet_lines.specs.declared.listing.PacketListing.{PacketListing}
 use Rattle.packets.specs.declared.Packets.{Packets}
 use Rattle.packets.proofs.WhatIsLeft as left
-use Rattle.packets.proofs.WhatIsLeft.{after_no_bytes, done_says_nothing, end_says, no_bytes_say}
+use Rattle.packets.proofs.WhatIsLeft.{after_no_bytes, end_says, no_bytes_say}
 use Rattle.packets.proofs.PacketsLister.list.Goals as goal
 
 abbrev packets_of : PacketListing → Packets
@@ -58,11 +59,11 @@ loop-rest-preserved g c =
 pub returns-else-not-is_done-clause-leaves : goal.returns-else-not-is_done-clause-leaves
 returns-else-not-is_done-clause-leaves g c =
     ap packets_of
-    (sym (called.after_the_end c.loop-rest.listing c.loop-rest.rest.now (sym c.if-not-is_done.ensures)) ∙ c.loop-rest.invariant.0)
+    (sym (ap (λ (x : Piece). x.next) (called.where_ended c.loop-rest.listing c.loop-rest.rest.now (sym c.if-not-is_done.ensures))) ∙ c.loop-rest.invariant.0)
 
 pub returns-else-not-is_done-clause-writes : goal.returns-else-not-is_done-clause-writes
 returns-else-not-is_done-clause-writes g c =
     let text = c.loop-rest.invariant.1 in
     subst (Appends (g.W.Write.contents c.args.output.now) (g.W.Write.contents c.loop-rest.output))
-    (sym (append-nil text) ∙ ap (λ (xs : List ℕ). text ++ xs) (sym (done_says_nothing c.loop-rest.listing c.loop-rest.rest.now (sym c.if-not-is_done.ensures))) ∙ c.loop-rest.invariant.3)
+    (sym (append-nil text) ∙ ap (λ (xs : List ℕ). text ++ xs) (sym (ap (λ (x : Piece). x.text) (called.where_ended c.loop-rest.listing c.loop-rest.rest.now (sym c.if-not-is_done.ensures)))) ∙ c.loop-rest.invariant.3)
     c.loop-rest.invariant.2
