@@ -2,15 +2,16 @@
 -- by the first byte and then the second's upper digit. One computation over all pairs shows that it is the definition.
 -- Assumes nothing.
 use Rattle.code.specs.declared.channel.Field.{Field}
-use mathlib.Core.Bool.{Bool, cond}
+use mathlib.Core.Bool.{Bool, true, cond, ◌&&◌}
 use Rattle.std.specs.Prelude.{Option, None, Some}
 use mathlib.Core.Path.{◌≡◌, refl, ap, sym, ◌∙◌}
 use Prim.Native.Nat.{ℕ, ◌+◌, ◌/◌, ◌%◌, ◌≤◌, ◌<◌}
-use borrow.Author.Tests.{le-leb, lt-leb}
-use lib.Dec.{eqb, leb, ltb}
+use borrow.Author.Tests.{le-leb, lt-leb, ltb-true}
+use lib.Dec.{eqb, leb, ltb, lit<, lit≤}
 use native.Mathlib.Omega.{arith}
 use Rattle.code.proofs.Agree.{agree, agree_from, agree_grid}
-use Rattle.code.specs.Control.{command_at}
+use Rattle.code.proofs.Ranges.{still_between}
+use Rattle.code.specs.Control.{command_at, names_field}
 use Rattle.code.specs.MidRow.{mid_row_at}
 use Rattle.code.specs.Preamble.{style_at}
 use Rattle.code.specs.Read.{channel_of, control_code_of, field_of, is_command, meaning, or_unknown, symbol_in, underlined, without_channel, without_field}
@@ -61,12 +62,24 @@ row_told p b r from below up less found =
 pub in_row_one : (a : ℕ) → a < 128 → eqb (a / 16) 1 ≡ is_command a
 in_row_one a less = agree (λ (x : ℕ). eqb (x / 16) 1) is_command 128 refl a less
 
+-- 20 to 2F, by the upper digit
+pub in_row_two : (b : ℕ) → b < 256 → eqb (b / 16) 2 ≡ names_field b
+in_row_two b less = agree (λ (x : ℕ). eqb (x / 16) 2) names_field 256 refl b less
+
 -- the remainder drops the channel bit
 without_channel_lem : (a : ℕ) → 16 ≤ a → a < 32 → a % 8 + 16 ≡ without_channel a
 without_channel_lem a from below = agree_from (λ (x : ℕ). x % 8 + 16) without_channel 16 16 refl a from below
+
+-- taking the field away keeps the first byte between 10 and 17
+pub without_field_between : (p b : ℕ) → 16 ≤ p → p < 24 → (16 ≤ without_field p b) × (without_field p b < 24)
+without_field_between p b from below = still_between (names_field b && eqb p 0x15) 0x14 p (lit≤ tt, lit< tt) (from, below)
 
 -- a control code put together from its parts
 pub parsed : (a b p : ℕ) (ch : Channel) (f : Option Field) (r : Option Control) → 16 ≤ a → a < 32 → ch ≡ channel_of a → f ≡ field_of (a % 8 + 16) b → p ≡ without_field (a % 8 + 16) b → r ≡ meaning p b → ◌≡◌ {A = ControlCode} (record { field = f; channel = ch; control = or_unknown a b r }) (control_code_of a b)
 unfolding control_code_of
 parsed a b p ch f r from below of_channel field prefix found =
     simp (found, prefix, field, of_channel, without_channel_lem a from below)
+
+-- a first byte's second row is at most 14
+pub first_row_small : (n : ℕ) → n < 8 → first_row_at n < 14
+first_row_small n less = ltb-true (first_row_at n) 14 (agree (λ (x : ℕ). ltb (first_row_at x) 14) (λ (x : ℕ). true) 8 refl n less)

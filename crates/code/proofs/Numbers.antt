@@ -1,22 +1,22 @@
 -- The numbers of the small enums: each is below the count of cases, and the case at a case's number is that case.
 -- Assumes nothing.
-use Rattle.std.specs.Prelude.{Result, Ok, Err, IsOk}
+use Rattle.std.specs.Prelude.{None, Some, Result, Ok, Err, IsOk}
 use Rattle.code.specs.Number.{numbered}
 use Rattle.code.specs.declared.number.NoSuchNumber.{NoSuchNumber}
 use mathlib.Core.Path.{◌≡◌, refl, ap, ap₂, subst, sym, ◌∙◌}
 use mathlib.Core.Bool.{Bool, cond}
-use Prim.Native.Nat.{ℕ, ◌/◌, ◌%◌, ◌<◌}
+use Prim.Native.Nat.{ℕ, ◌*◌, ◌-◌, ◌/◌, ◌%◌, ◌<◌}
 use native.Mathlib.Nat.{lt_trans}
 use native.Mathlib.Omega.{arith}
-use borrow.Author.Tests.{lt-ltb}
-use lib.Dec.{lit<}
+use borrow.Author.Tests.{lt-leb, lt-ltb, ne_eqb}
+use lib.Dec.{eqb, leb, lit<, ltb}
 use Rattle.code.proofs.Agree.{agree}
 use Rattle.code.specs.Color.{color_at, color_number}
 use Rattle.code.specs.Column.{column_at, column_number}
-use Rattle.code.specs.Control.{command_at, command_number}
+use Rattle.code.specs.Control.{command_at, command_number, tab_of, tab_number}
 use Rattle.code.specs.Letter.{letter_at, letter_place, letter_row_at, letter_row_number}
 use Rattle.code.specs.MidRow.{kind_number}
-use Rattle.code.specs.Preamble.{style_at, style_of}
+use Rattle.code.specs.Preamble.{color_of_style, indent_in, is_italics, style_at, style_of}
 use Rattle.code.specs.Symbol.{symbol_at, symbol_place, symbol_row_at, symbol_row_number}
 use Rattle.code.specs.declared.color.Color as color
 use Rattle.code.specs.declared.color.Color.TheVariants.{White, Green, Blue, Cyan, Red, Yellow, Magenta}
@@ -24,6 +24,8 @@ use Rattle.code.specs.declared.column.Column.{Column}
 use Rattle.code.specs.declared.column.Column.TheVariants.{C0, C1, C2, C3, C4, C5, C6, C7, C8, C9, CA, CB, CC, CD, CE, CF}
 use Rattle.code.specs.declared.control.Command.{Command}
 use Rattle.code.specs.declared.control.Command.TheVariants as command
+use Rattle.code.specs.declared.control.Tab.{Tab}
+use Rattle.code.specs.declared.control.Tab.TheVariants as tab
 use Rattle.code.specs.declared.letter.Letter.{Letter}
 use Rattle.code.specs.declared.letter.LetterRow.{LetterRow}
 use Rattle.code.specs.declared.letter.LetterRow.TheVariants.{Row2, Row3, Row4, Row5, Row6, Row7}
@@ -137,6 +139,12 @@ command_back command.CarriageReturn = (lit< tt, refl)
 command_back command.EraseNonDisplayedMemory = (lit< tt, refl)
 command_back command.EndOfCaption = (lit< tt, refl)
 
+-- a tab's number is below 4 and leads back to it
+pub tab_back : (t : Tab) → Back tab_of tab_number 4 t
+tab_back tab.TabOffset1 = (lit< tt, refl)
+tab_back tab.TabOffset2 = (lit< tt, refl)
+tab_back tab.TabOffset3 = (lit< tt, refl)
+
 -- the places are made of row and column
 pub letter_small : (l : Letter) → letter_place l < 96
 letter_small l = omega (arith, (letter_row_back l.row).0, (column_back l.column).0)
@@ -164,3 +172,42 @@ letter_place_lem n less = agree (λ (x : ℕ). letter_place (letter_at x)) (λ (
 
 pub symbol_place_lem : (n : ℕ) → n < 80 → symbol_place (symbol_at n) ≡ n
 symbol_place_lem n less = agree (λ (x : ℕ). symbol_place (symbol_at x)) (λ (x : ℕ). x) 80 refl n less
+
+-- a style's colour, by its number
+pub color_by_number : (t : PreambleType) → cond (ltb (style_of t) 7) (color_at (style_of t)) White ≡ color_of_style t
+color_by_number (style.Color c) = rw (lt-ltb (color_number c) 7 (color_back c).0, (color_back c).1)
+color_by_number style.WhiteItalics = refl
+color_by_number style.Indent0 = refl
+color_by_number style.Indent4 = refl
+color_by_number style.Indent8 = refl
+color_by_number style.Indent12 = refl
+color_by_number style.Indent16 = refl
+color_by_number style.Indent20 = refl
+color_by_number style.Indent24 = refl
+color_by_number style.Indent28 = refl
+
+-- its indent
+pub indent_by_number : (t : PreambleType) → cond (leb 8 (style_of t)) (Some ((style_of t - 8) * 4)) None ≡ indent_in t
+indent_by_number (style.Color c) = rw (lt-leb 8 (color_number c) (omega (arith, (color_back c).0)))
+indent_by_number style.WhiteItalics = refl
+indent_by_number style.Indent0 = refl
+indent_by_number style.Indent4 = refl
+indent_by_number style.Indent8 = refl
+indent_by_number style.Indent12 = refl
+indent_by_number style.Indent16 = refl
+indent_by_number style.Indent20 = refl
+indent_by_number style.Indent24 = refl
+indent_by_number style.Indent28 = refl
+
+-- whether it is italics
+pub italics_by_number : (t : PreambleType) → eqb (style_of t) 7 ≡ is_italics t
+italics_by_number (style.Color c) = ne_eqb (color_number c) 7 (λ (e : color_number c ≡ 7). omega (arith, (color_back c).0))
+italics_by_number style.WhiteItalics = refl
+italics_by_number style.Indent0 = refl
+italics_by_number style.Indent4 = refl
+italics_by_number style.Indent8 = refl
+italics_by_number style.Indent12 = refl
+italics_by_number style.Indent16 = refl
+italics_by_number style.Indent20 = refl
+italics_by_number style.Indent24 = refl
+italics_by_number style.Indent28 = refl
