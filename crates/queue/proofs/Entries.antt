@@ -93,7 +93,7 @@ leaves_as true m (answer false) q = refl
 leaves_as true m (refused k) q = refl
 leaves_as false m o q = refl
 
-pushed_by_lem : (o : Outcome (Option ℕ)) (q : Queue) (c : Code) → o ≡ entry_in q c → leaves o q ≡ push_ring q c
+pub pushed_by_lem : (o : Outcome (Option ℕ)) (q : Queue) (c : Code) → o ≡ entry_in q c → leaves o q ≡ push_ring q c
 unfolding entry_for push_ring
 pushed_by_lem o q c e =
     ap (λ (x : Outcome (Option ℕ)). leaves x q) e

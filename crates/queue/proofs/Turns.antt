@@ -5,7 +5,7 @@ use mathlib.Core.Bool.{Bool, true, false, cond}
 use mathlib.Core.List.{List, [], ◌∷◌}
 use Rattle.std.specs.Prelude.{Option, None, Some}
 use mathlib.Core.Path.{◌≡◌, refl, ap, ap₂, sym, ◌∙◌}
-use Prim.Native.Nat.{ℕ, zero, suc, ◌+◌, ◌-◌, ◌%◌, ◌<◌}
+use Prim.Native.Nat.{ℕ, zero, suc, ◌+◌, ◌-◌, ◌%◌, ◌≤◌, ◌<◌}
 use native.Mathlib.Omega.{arith}
 use lib.ListN.{length}
 use Rattle.code.specs.Code.{needs_backspace}
@@ -13,6 +13,7 @@ use Rattle.code.specs.Outcome.{Outcome, answer, refused}
 use Rattle.code.specs.Pair.{pair}
 use Rattle.code.specs.declared.code.Code.{Code}
 use Rattle.code.specs.declared.pair.Pair.{Pair}
+use Rattle.queue.proofs.Places.{how_many_lem}
 use Rattle.queue.proofs.Refines.{ill_formed_pop, popped_as}
 use Rattle.queue.proofs.WellFormed.{formed}
 use Rattle.queue.specs.Number.{code_of}
@@ -124,6 +125,11 @@ turn_is_the_pop q = ap (λ (t : Turn). t.pair) (in_ring q.places q.start q.waiti
 
 pub turn_leaves : (q : Queue) → freeing q (turn_in q) ≡ left_in q
 turn_leaves q = ap (freeing q) (in_ring q.places q.start q.waiting q.held)
+
+-- no more places are freed than there are codes
+pub turn_frees_waiting : (q : Queue) → (turn_in q).freed ≤ q.waiting
+turn_frees_waiting q =
+    omega (arith, ap (λ (t : Turn). t.freed) (in_ring q.places q.start q.waiting q.held), how_many_lem q.places q.start q.waiting)
 
 -- the start and the places freed may be counted modulo 64 first
 pub start_moved_on : (start freed : ℕ) → (start % 64 + freed % 64) % 64 ≡ (start + freed) % 64

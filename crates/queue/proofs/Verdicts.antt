@@ -7,14 +7,14 @@ use mathlib.Core.Path.{◌≡◌, refl, ap, sym, ◌∙◌}
 use Prim.Native.Nat.{ℕ, ◌+◌, ◌/◌, ◌≤◌, ◌<◌}
 use native.Mathlib.Omega.{arith}
 use borrow.Author.Tests.{eq-eqb, le-ltb, lt-ltb, ne_eqb}
-use lib.Dec.{ltb}
+use lib.Dec.{leb, ltb}
 use Rattle.code.proofs.Meaning.{in_row_one}
 use Rattle.code.proofs.OneAnswer.{clash, same}
 use Rattle.code.specs.Letter.{letter_place}
 use Rattle.code.specs.Outcome.{Outcome, answer, refused}
 use Rattle.code.specs.Read.{is_command}
 use Rattle.code.specs.Pair.{pair}
-use Rattle.code.specs.Write.{control_bytes, of_seven_bits}
+use Rattle.code.specs.Write.{control_bytes, of_seven_bits, preamble_bytes, row_bytes}
 use Rattle.code.specs.declared.code.Code.{Code}
 use Rattle.code.specs.declared.code.Code.TheVariants as code
 use Rattle.code.specs.declared.control.Control.{Control}
@@ -22,10 +22,11 @@ use Rattle.code.specs.declared.control.Control.TheVariants as control
 use Rattle.code.specs.declared.control.ControlCode.{ControlCode}
 use Rattle.code.specs.declared.letter.Letter.{Letter}
 use Rattle.code.specs.declared.pair.Pair.{Pair}
+use Rattle.code.specs.declared.preamble.PreambleAddressCode.{PreambleAddressCode}
 use Rattle.queue.proofs.Numbered.{control_may, control_tested, letter_may, nul_may, unknown_may}
 use Rattle.queue.specs.Entry.{number_outcome, verdict_outcome}
 use Rattle.queue.specs.declared.queueable.QueueableError.{QueueableError}
-use Rattle.queue.specs.Number.{bytes_number, control_number, field_number, number_in, number_of, numbered, numbered_control, numbered_unknown, plain, whose_number, with_number}
+use Rattle.queue.specs.Number.{bytes_number, channel_number, control_number, field_number, number_in, number_of, numbered, numbered_control, numbered_unknown, plain, whose_number, with_number}
 use Rattle.queue.specs.Queueable.{unless_dressed}
 
 -- a control, by the tests of its kind
@@ -37,9 +38,21 @@ row_by : (whose n : ℕ) (t : Bool) (b p : Pair) → answer b ≡ cond t (answer
 row_by whose n true b p e number = ap (λ (k : ℕ). answer (Some (whose + k))) (number ∙ ap bytes_number (same e))
 row_by whose n false b p e number = absurd (clash e)
 
+-- in a row of 0 to 14 it is written
+pub row_inside : (whose n : ℕ) (p : PreambleAddressCode) (b : Pair) → answer b ≡ row_bytes p → n ≡ bytes_number b → answer (Some (whose + n)) ≡ numbered_control whose (control.Preamble p)
+unfolding control_bytes
+row_inside whose n p b e number =
+    as_tested whose (control.Preamble p) _ (row_by whose n (leb p.row 14) b (preamble_bytes p) e number)
+
 refused_by_lem : (n : Option ℕ) (t : Bool) (p : Pair) → refused 3 ≡ cond t (answer p) (refused 3) → refused 3 ≡ with_number n (unless_dressed false (cond t (answer tt) (refused 3)))
 refused_by_lem n true p e = absurd (clash (sym e))
 refused_by_lem n false p e = refl
+
+-- in any other it is refused by 3
+pub row_outside : (whose : ℕ) (p : PreambleAddressCode) → refused 3 ≡ row_bytes p → refused 3 ≡ numbered_control whose (control.Preamble p)
+row_outside whose p e =
+    as_tested whose (control.Preamble p) _
+    (refused_by_lem (Some (whose + control_number (control.Preamble p))) (leb p.row 14) (preamble_bytes p) e)
 
 -- an `Unknown` of two bytes
 pub dressed : (whose a b : ℕ) → a < 128 → b < 128 → (a / 16 ≡ 1 → ⊥) → refused 18 ≡ numbered_unknown whose a b
@@ -62,6 +75,18 @@ field_at_most (Some f) = either f.0
     either : (t : Bool) → field_number (Some (record { 0 = t })) ≤ 0x4000
     either true = omega arith
     either false = omega arith
+
+-- channel one adds nothing
+pub no_channel : (n : ℕ) → n ≡ n + 0
+no_channel n = omega arith
+
+-- field and channel are at most 5000 together
+pub whose_at_most : (c : ControlCode) → whose_number c ≤ 0x5000
+whose_at_most c = omega (arith, field_at_most c.field, channel_at_most c.channel.0)
+  where
+    channel_at_most : (t : Bool) → channel_number (record { 0 = t }) ≤ 0x1000
+    channel_at_most true = omega arith
+    channel_at_most false = omega arith
 
 -- a command, by its control, whose number is its own
 as_numbered : (r : Result ℕ QueueableError) (m : Result (Option ℕ) QueueableError) → MatchResult r (λ x. IsOkAnd m (λ y. y ≡ Some x)) (λ e. m ≡ Err e) → verdict_outcome m ≡ number_outcome r
