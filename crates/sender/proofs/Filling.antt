@@ -16,7 +16,7 @@ use Rattle.code.specs.declared.pair.Pair.{Pair}
 use Rattle.sender.proofs.Refines.{sent_pair, sent_view}
 use Rattle.sender.specs.Drain.{bytes_of_pairs, drained_pairs, filled, send_sender_times}
 use Rattle.sender.proofs.Steps.{step_is_the_send}
-use Rattle.sender.specs.ByParts.{moved, step_in}
+use Rattle.sender.specs.ByParts.{filling, moved, step_in}
 use Rattle.sender.specs.Sender.{send_sender, view, well_formed}
 use Rattle.sender.specs.Sending.{Sending, is_idle, send}
 use Rattle.sender.specs.declared.sender.Sender.{Sender}
@@ -88,16 +88,26 @@ once_sent sends s part at ps = (sends + length ps, send_sender_times (length ps)
 abbrev pub comes_to : ℕ → ℕ → Sender → List ℕ → ℕ → ℕ × Sender × List ℕ
 comes_to limit sends s part at = once_sent sends s part at (drained_pairs (limit - sends) (length part - at) (view s))
 
+-- from the beginning of a part it fills the part
+pub begun : (limit : ℕ) (s : Sender) (part : List ℕ) → comes_to limit 0 s part 0 ≡ filling s part limit
+begun limit s part =
+    let all : limit - 0 ≡ limit = omega arith in
+    let whole : length part - 0 ≡ length part = omega arith in
+    let ps = drained_pairs limit (length part) (view s) in
+    let counted : 0 + length ps ≡ length ps = omega arith in
+    ap₂ (λ (n room : ℕ). once_sent 0 s part 0 (drained_pairs n room (view s))) all whole
+    ∙ ap {B = ℕ × Sender × List ℕ} (λ (n : ℕ). (n, send_sender_times (length ps) s, filled part ps)) counted
+
 none_left : (sends : ℕ) (s : Sender) (part : List ℕ) (at : ℕ) → once_sent sends s part at [] ≡ (sends, s, part)
 none_left sends s part at =
     let counted : sends + 0 ≡ sends = omega arith in
     ap₂ {C = ℕ × Sender × List ℕ} (λ (n : ℕ) (l : List ℕ). (n, s, l)) counted (take-append-drop at part)
 
-done_at_limit : (limit sends : ℕ) (s : Sender) (part : List ℕ) (at : ℕ) → limit ≤ sends → comes_to limit sends s part at ≡ (sends, s, part)
+pub done_at_limit : (limit sends : ℕ) (s : Sender) (part : List ℕ) (at : ℕ) → limit ≤ sends → comes_to limit sends s part at ≡ (sends, s, part)
 done_at_limit limit sends s part at h =
     ap (once_sent sends s part at) (none_at_limit (limit - sends) (length part - at) (view s) (omega arith)) ∙ none_left sends s part at
 
-done_without_room : (limit sends : ℕ) (s : Sender) (part : List ℕ) (at : ℕ) → length part - at < 2 → comes_to limit sends s part at ≡ (sends, s, part)
+pub done_without_room : (limit sends : ℕ) (s : Sender) (part : List ℕ) (at : ℕ) → length part - at < 2 → comes_to limit sends s part at ≡ (sends, s, part)
 done_without_room limit sends s part at h =
     ap (once_sent sends s part at) (none_without_room (limit - sends) (length part - at) (view s) h) ∙ none_left sends s part at
 

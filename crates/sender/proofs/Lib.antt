@@ -4,6 +4,7 @@ pub mod DrainedBytes
 pub mod DrainedSends
 pub mod ExactlySoMany
 pub mod Filling
+pub mod FirstByte
 pub mod FirstInFirstOut
 pub mod FromIllFormed
 pub mod InCalls

@@ -25,7 +25,7 @@ queue_fails : (s : Sender) → queue.well_formed s.queue ≡ false → well_form
 unfolding well_formed
 queue_fails s e = rw e refl
 
-repeats_fail : (s : Sender) → repeats_fit s.repeats ≡ false → well_formed s ≡ false
+pub repeats_fail : (s : Sender) → repeats_fit s.repeats ≡ false → well_formed s ≡ false
 unfolding well_formed
 repeats_fail s e = rw e (both_fail (queue.well_formed s.queue))
 
@@ -60,7 +60,7 @@ unfolding count_ring count_sender
 count_by s true e fits = rw (e, well_formed_lem s.queue s.repeats e fits) refl
 count_by s false e fits = ap (counted_by s) (ring.ill_formed_count s.queue e) ∙ sym (ill_formed_count s (queue_fails s e))
 
-count_is_the_queue's : (s : Sender) → repeats_fit s.repeats ≡ true → ((count_ring s.queue).0, s) ≡ count_sender s
+pub count_is_the_queue's : (s : Sender) → repeats_fit s.repeats ≡ true → ((count_ring s.queue).0, s) ≡ count_sender s
 count_is_the_queue's s fits = count_by s (queue.well_formed s.queue) refl fits
 
 pub counted_by_queue : (s : Sender) (r : Result ℕ IllFormed) → repeats_fit s.repeats ≡ true → count_outcome (s.queue, r) ≡ count_ring s.queue → (formed_outcome r, s) ≡ count_sender s

@@ -3,12 +3,12 @@
 -- Assumes nothing.
 use mathlib.Core.Bool.{true, false}
 use mathlib.Core.Path.{◌≡◌, refl, ap, ap₂, sym, ◌∙◌}
-use Prim.Native.Nat.{ℕ, ◌+◌, ◌-◌, ◌%◌, ◌<◌}
+use Prim.Native.Nat.{ℕ, ◌+◌, ◌-◌, ◌%◌, ◌≤◌, ◌<◌}
 use native.Mathlib.Omega.{arith}
 use Rattle.code.specs.Outcome.{Outcome, answer, refused}
 use Rattle.code.specs.declared.pair.Pair.{Pair}
 use Rattle.queue.proofs.Refines as ring
-use Rattle.queue.proofs.Turns.{turn_is_the_pop, turn_leaves}
+use Rattle.queue.proofs.Turns.{turn_frees_waiting, turn_is_the_pop, turn_leaves}
 use Rattle.queue.proofs.WellFormed.{formed}
 use Rattle.queue.specs.Ring.{pop_ring}
 use Rattle.queue.specs.Ring as queue
@@ -49,6 +49,14 @@ unfolding send
 step_is_the_send s e =
     let told = steps_by s (source (view s)) (queue_formed s e) in
     ap₂ {C = Outcome Pair × Sender} (λ (p : Pair) (r : Sender). (answer p, r)) told.0 told.1 ∙ sym (sent_as s e)
+
+-- it frees no more places than there are codes
+freed_by : (s : Sender) (o : Source) → (step_by o s.queue.held (turn_in s.queue)).freed ≤ s.queue.waiting
+freed_by s (ahead p) = omega arith
+freed_by s pops = turn_frees_waiting s.queue
+
+pub step_frees_waiting : (s : Sender) → (step_in s).freed ≤ s.queue.waiting
+step_frees_waiting s = freed_by s (source (view s))
 
 -- a send as the code makes it
 pub refused_send : (s : Sender) → well_formed s ≡ false → (refused 12, s) ≡ send_sender s
