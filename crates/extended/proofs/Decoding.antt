@@ -27,6 +27,15 @@ pub odd_pair : (s : ExtendedState) (p : Pair) → is_odd_pair p ≡ true → ste
 unfolding step
 odd_pair s p odd = rw odd
 
+-- a pair that the captions' receiver takes has odd parity
+odd_by : (r : Cea608State) (p : Pair) (d : Cea608State × Result (Option Cea608) InvalidParity) (h : Option Cea608) (t : Bool) → is_odd_pair p ≡ t → decoded_outcome d ≡ receiver.step r p → d.1 ≡ Ok h → t ≡ true
+odd_by r p d h true odd e is = refl
+odd_by r p d h false even e is =
+    absurd (clash (ap heard_outcome (sym is) ∙ ap (λ (y : Stepped). y.0) (e ∙ even_is_refused_1 r p even)))
+
+pub heard_is_odd : (r : Cea608State) (p : Pair) (d : Cea608State × Result (Option Cea608) InvalidParity) (h : Option Cea608) → decoded_outcome d ≡ receiver.step r p → d.1 ≡ Ok h → is_odd_pair p ≡ true
+heard_is_odd r p d h e is = odd_by r p d h (is_odd_pair p) refl e is
+
 -- the receiver refuses a pair exactly where its parity is even
 module _ (s : ExtendedState) (p : Pair) (d : Cea608State × Result (Option Cea608) InvalidParity) (e : decoded_outcome d ≡ receiver.step s.captions p) where
   even_unless_heard : (t : Bool) → is_odd_pair p ≡ t → (x : InvalidParity) → d.1 ≡ Err x → t ≡ false
