@@ -2,12 +2,12 @@
 -- Assumes nothing.
 use mathlib.Core.Bool.{Bool, true, false, cond}
 use mathlib.Core.List.{List, [], ◌∷◌, ◌++◌, append_assoc}
-use mathlib.Core.Path.{◌≡◌, refl, ap₂, sym, ◌∙◌}
-use Prim.Native.Nat.{ℕ, ◌+◌, ◌/◌, ◌≤◌, ◌<◌}
+use mathlib.Core.Path.{◌≡◌, refl, ap, ap₂, sym, ◌∙◌}
+use Prim.Native.Nat.{ℕ, ◌+◌, ◌/◌, ◌%◌, ◌≤◌, ◌<◌}
 use native.Mathlib.Omega.{arith}
 use borrow.Author.Tests.{le-leb, leb-false, leb-true, lt-leb}
 use lib.Dec.{leb}
-use Rattle.lines.specs.Words.{at_place, decimal, low_four, up_to_four}
+use Rattle.lines.specs.Words.{at_place, decimal, hex_digit, low_four, up_to_four}
 
 -- two tests that hold together are one
 same_test : (a b x y : ℕ) → (a ≤ b → x ≤ y) → (x ≤ y → a ≤ b) → leb a b ≡ leb x y
@@ -44,3 +44,9 @@ pub long_number : (n : ℕ) → 10000 ≤ n → n < 100000000 → up_to_four (n 
 unfolding decimal
 long_number n from less =
     simp (append_assoc, seventh n, sixth n, fifth n, lt-leb 1000000000 n (omega (arith, less)), lt-leb 100000000 n (omega (arith, less)), le-leb 10000 n (omega (arith, from)), le-leb 1000 n (omega (arith, from)), le-leb 100 n (omega (arith, from)), le-leb 10 n (omega (arith, from)))
+
+-- a remainder by 16 is its own remainder
+pub once : (n : ℕ) → hex_digit (n % 16 % 16) ≡ hex_digit (n % 16)
+once n =
+    let same : n % 16 % 16 ≡ n % 16 = omega arith in
+    ap hex_digit same

@@ -1,7 +1,7 @@
 -- A whole pair between two lines of text: its line goes straight into the output, where there is room for any line, and the
 -- reading comes to the same as byte by byte.
 -- Assumes nothing.
-use mathlib.Core.Bool.{false}
+use mathlib.Core.Bool.{Bool, false}
 use mathlib.Core.List.{List, ◌++◌}
 use mathlib.Core.Path.{◌≡◌, refl, ap, ap₂, sym, ◌∙◌}
 use Prim.Native.Nat.{ℕ, ◌+◌, ◌-◌, ◌≤◌, ◌<◌}
@@ -22,10 +22,18 @@ use Rattle.lines.specs.Midway.{HasPair, Onward, comes_to}
 use Rattle.lines.specs.Pieces.{absorbed, after_pair, between_pairs, counted, with_half, with_line}
 use Rattle.lines.specs.Put.{Placed, Puts, placed, put_all}
 use Rattle.lines.specs.Words.{line_of}
+use Rattle.lines.specs.declared.line.Line.{Line}
 use Rattle.lines.specs.declared.listing.Listing.{Listing}
 use Rattle.lines.specs.declared.put.Writer.{Writer}
 use Rattle.receiver.specs.Receiver.{Stepped, step}
 use Rattle.receiver.specs.declared.state.Cea608State.{Cea608State}
+use Rattle.std.specs.Prelude.{Option, None}
+
+-- a state between two pairs, by its receiver and its counts
+pub as_between_pairs : (l : Listing) → l.half ≡ None → l.ended ≡ false → l.line ≡ empty_line → l ≡ between_pairs l.receiver l.pairs l.refused
+as_between_pairs l whole on empty =
+    ap {B = Listing} (λ (h : Option ℕ). record { receiver = l.receiver; half = h; pairs = l.pairs; refused = l.refused; ended = l.ended; line = l.line }) whole
+    ∙ ap₂ {C = Listing} (λ (t : Bool) (x : Line). record { receiver = l.receiver; half = None; pairs = l.pairs; refused = l.refused; ended = t; line = x }) on empty
 
 first_byte_lem : (s : Cea608State) (k q a : ℕ) → k < most_pairs → absorbed (between_pairs s k q) a ≡ with_half (between_pairs s k q) a
 unfolding absorbed

@@ -1,7 +1,7 @@
 -- The reading of a piece, one byte at a time. What it comes to from a state, with some taken and written, is the same before
 -- a byte and after it; where no byte is taken, it is what there is.
 -- Assumes nothing.
-use Rattle.std.specs.Prelude.{Option, None, Some}
+use Rattle.std.specs.Prelude.{Option, None, Some, Result}
 use Prim.Native.Nat.{ℕ, ◌+◌, ◌-◌, ◌≤◌, ◌<◌}
 use lib.Dec.{leb}
 use lib.ListN.{drop, drop_of_length-le, get_or, length}
@@ -11,6 +11,10 @@ use mathlib.Core.List.{List, ◌∷◌, ◌++◌}
 use mathlib.Core.Path.{◌≡◌, refl, ap, ap₂, sym, subst, ◌∙◌}
 use native.Mathlib.Numerals.{add-one}
 use native.Mathlib.Omega.{arith}
+use Rattle.extended.specs.State.{Step, given_outcome, received_outcome, report_of}
+use Rattle.extended.specs.declared.state.ExtendedError.{ExtendedError}
+use Rattle.extended.specs.declared.state.ExtendedState.{ExtendedState}
+use Rattle.extended.specs.declared.state.Given.{Given}
 use Rattle.lines.proofs.Puts.{all_places, put_parts, puts_length, same_bytes, taken_back}
 use Rattle.lines.specs.Listing.{most_pairs}
 use Rattle.lines.specs.Pieces.{end_refusal}
@@ -19,8 +23,8 @@ use Rattle.lines.specs.declared.listing.EndError.TheVariants as end
 use Rattle.lines.specs.declared.put.Writer.{Writer}
 use Rattle.packet_lines.proofs.Bounds.{a_byte_fits, the_end_fits}
 use Rattle.packet_lines.proofs.ProgressLemmas.{goes_on_lem, no_more_than_room}
-use Rattle.packet_lines.specs.Pieces.{Piece, Read, Says, Turn, after_byte, closed, count_half, end_packets, end_words, ended_by, ending, of_byte, of_end, piece_of, read_as, read_packets, refused_by, said_only, stays, stops}
-use Rattle.packet_lines.specs.Words.{last_line}
+use Rattle.packet_lines.specs.Pieces.{Piece, Read, Says, Turn, after_byte, closed, count_half, counted, end_packets, end_words, ended_by, ending, of_byte, of_end, of_pair, piece_of, read_as, read_packets, refused_by, said_only, stays, stops}
+use Rattle.packet_lines.specs.Words.{last_line, line_of}
 use Rattle.packet_lines.specs.declared.listing.PacketListing.{PacketListing}
 
 -- how many bytes were taken, the state, the place in the output and the output
@@ -43,7 +47,7 @@ from_the_start output text fits =
 abbrev answered : Reached → Read
 answered x = (x.0, x.2.0, x.1, x.2.1)
 
-as_promised : (input : List ℕ) (l : PacketListing) (output : List ℕ) {taken written : ℕ} {m : PacketListing} {after : List ℕ} → ◌≡◌ {A = Reached} (taken, m, (written, after)) (comes_to input 0 l (0, output)) → (taken, written, m, after) ≡ read_packets l input output
+pub as_promised : (input : List ℕ) (l : PacketListing) (output : List ℕ) {taken written : ℕ} {m : PacketListing} {after : List ℕ} → ◌≡◌ {A = Reached} (taken, m, (written, after)) (comes_to input 0 l (0, output)) → (taken, written, m, after) ≡ read_packets l input output
 unfolding read_packets
 as_promised input l output e =
     let whole : length output - 0 ≡ length output = omega arith in
@@ -63,7 +67,7 @@ pub at_the_end : (input : List ℕ) (taken : ℕ) (l : PacketListing) (s : Place
 at_the_end input taken l s over =
     sym (stays_at taken s l _ (ap (λ (i : List ℕ). piece_of l i (length s.1 - s.0)) (drop_of_length-le input over)))
 
-where_it_stops : (input : List ℕ) (taken : ℕ) (l : PacketListing) (s : Placed) → taken < length input → stops l (length s.1 - s.0) ≡ true → (taken, l, s) ≡ comes_to input taken l s
+pub where_it_stops : (input : List ℕ) (taken : ℕ) (l : PacketListing) (s : Placed) → taken < length input → stops l (length s.1 - s.0) ≡ true → (taken, l, s) ≡ comes_to input taken l s
 where_it_stops input taken l s more stop =
     let room = length s.1 - s.0 in
     let a = get_or input taken 0 in
@@ -140,6 +144,13 @@ module _ {input : List ℕ} {start l : PacketListing} {first w : Writer} {i take
   pub over_where_it_stops : i < length input → stops l (room_of w) ≡ true → (taken, w.at, l, memory) ≡ read_packets start input output
   over_where_it_stops less stop =
       over_so (where_it_stops input taken l (placed w) (omega (arith, less, so_far.place)) stop)
+
+-- what a whole pair did: the line of its answer is put, and the answer is counted
+pub pair_said : (l : PacketListing) (r : ExtendedState × Result (Option Given) ExtendedError) (given : Step) {w next : Writer} {m : PacketListing} → received_outcome r ≡ given → Puts w (line_of l.pairs (report_of (given_outcome r.1))) next → m ≡ counted l r.0 (report_of (given_outcome r.1)) → Says (of_pair l given) w m next
+pair_said l r given step puts now = record {
+  puts = same_bytes (ap (λ (y : Step). line_of l.pairs (report_of y.1)) step) puts;
+  leaves = now ∙ ap (λ (y : Step). (of_pair l y).next) step;
+}
 
 -- the stream ends with these words, the last line and so many refusals
 pub closed_so : (l : PacketListing) (words : List ℕ) {n q : ℕ} {w next : Writer} {m : PacketListing} → n ≡ q → Puts w (words ++ last_line l.pairs l.packets n) next → m ≡ closed l n → Says (ending l words q) w m next
