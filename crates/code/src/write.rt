@@ -79,7 +79,7 @@ impl Control {
     {
         match self {
             Control::Preamble(preamble) => {
-                preamble.bytes()?;
+                PreambleAddressCode::new(preamble.row, preamble.underline, preamble.ty)?;
                 Ok(())
             }
             Control::Unknown(first, second) => {

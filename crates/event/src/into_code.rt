@@ -92,8 +92,8 @@ impl Address {
     ) -> Result<(Code, Code), IntoCodeError>
         ensures { into_code_outcome result ≡ preamble_codes self.field self.channel preamble }
     {
-        preamble.bytes()?;
-        Ok(self.control(Control::Preamble(preamble)))
+        let made = PreambleAddressCode::new(preamble.row, preamble.underline, preamble.ty)?;
+        Ok(self.control(Control::Preamble(made)))
     }
 }
 
