@@ -49,7 +49,7 @@ pub enum Command {
 // The tab offsets 17 21 to 17 23.
 #[derive(Clone, Copy, Debug, PartialEq, Eq)]
 pub enum Tab {
-    TabOffset1 = 1,
+    TabOffset1,
     TabOffset2,
     TabOffset3,
 }
@@ -127,7 +127,7 @@ impl Tab {
     pub fn number(self) -> u8
         ensures { result ≡ tab_number self }
     {
-        self as u8
+        self as u8 + 1
     }
 }
 

@@ -4,13 +4,13 @@ ghost use Rattle.extended.specs.Class.{class_number, start_byte};
 
 #[derive(Clone, Copy)]
 pub enum Class {
-    Current = 1,
-    Future = 2,
-    ChannelInformation = 3,
-    Miscellaneous = 4,
-    PublicService = 5,
-    Reserved = 6,
-    Private = 7,
+    Current,
+    Future,
+    ChannelInformation,
+    Miscellaneous,
+    PublicService,
+    Reserved,
+    Private,
 }
 
 impl Class {
@@ -18,7 +18,7 @@ impl Class {
     pub fn number(self) -> u8
         ensures { result ≡ class_number self }
     {
-        self as u8
+        self as u8 + 1
     }
 
     // The first byte of a packet's start: 01, 03, .. 0D.

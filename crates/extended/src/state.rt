@@ -49,7 +49,7 @@ impl Class {
     pub(crate) fn place(self) -> usize
         ensures { result ≡ place self }
     {
-        self as usize - 1
+        self as usize
     }
 }
 

@@ -1,19 +1,18 @@
 // A triplet: five marker bits of one, the valid bit, two bits of type, and two data bytes.
 ghost use Rattle.std.specs.Prelude.{◌≡◌};
-ghost use Rattle.triplet.specs.Triplet.{bytes_of, from_bytes_outcome, has_marker, read_triplet, triplet_of};
+ghost use Rattle.triplet.specs.Triplet.{bytes_of, from_bytes_outcome, has_marker, passing_byte, read_triplet, triplet_of};
 
 use code::{Field, Pair};
 
-// What marks a triplet that is no pair of a field: its valid bit is clear, whatever the type, or the type is 2 or 3. The
-// number of each is the first byte of its triplets.
+// What marks a triplet that is no pair of a field: its valid bit is clear, whatever the type, or the type is 2 or 3.
 #[derive(Clone, Copy, Debug, PartialEq, Eq)]
 pub enum Passing {
-    Clear0 = 0xF8,
-    Clear1 = 0xF9,
-    Clear2 = 0xFA,
-    Clear3 = 0xFB,
-    Type2 = 0xFE,
-    Type3 = 0xFF,
+    Clear0,
+    Clear1,
+    Clear2,
+    Clear3,
+    Type2,
+    Type3,
 }
 
 // A pair of a field, or two bytes that pass through as found. Each value is one triplet and each triplet one value.
@@ -55,6 +54,20 @@ pub(crate) fn triplet_of(bytes: TripletBytes) -> Triplet
     }
 }
 
+// The first byte of a triplet that passes through. A match, since what `as` makes of a case is its place among them.
+pub(crate) fn passing_byte(passing: Passing) -> u8
+    ensures { result ≡ passing_byte passing }
+{
+    match passing {
+        Passing::Clear0 => 0xF8,
+        Passing::Clear1 => 0xF9,
+        Passing::Clear2 => 0xFA,
+        Passing::Clear3 => 0xFB,
+        Passing::Type2 => 0xFE,
+        Passing::Type3 => 0xFF,
+    }
+}
+
 impl Triplet {
     // Reads three bytes. The parity of a pair is not judged here: the receiver refuses it.
     pub fn from_bytes(first: u8, second: u8, third: u8) -> Result<Triplet, WrongMarker>
@@ -76,7 +89,7 @@ impl Triplet {
                 TripletBytes(if one { 0xFC } else { 0xFD }, second, third)
             }
             Triplet::PassesThrough(passing, second, third) => {
-                TripletBytes(passing as u8, second, third)
+                TripletBytes(passing_byte(passing), second, third)
             }
         }
     }
