@@ -40,11 +40,13 @@ impl Cea608State {
     pub fn decode(self, pair: Pair) -> (Cea608State, Result<Option<Cea608>, InvalidParity>)
         ensures { decoded_outcome result ≡ step self pair }
     {
-        match Code::from_data(pair) {
-            Ok((Code::Control(code), _)) => self.command(pair, code),
-            Ok((first, second)) => self.text(pair, first, second),
-            Err(e) => (self, Err(e)),
-        }
+        let Ok((first, second)) = Code::from_data(pair) else {
+            return (self, Err(InvalidParity));
+        };
+        let Code::Control(code) = first else {
+            return self.text(pair, first, second);
+        };
+        self.command(pair, code)
     }
 
     // A command: skipped where it repeats the last pair; then no repeat is awaited.
