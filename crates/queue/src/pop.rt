@@ -107,15 +107,14 @@ impl Queue {
 
     // The next pair for the line; 80 80 where nothing waits.
     #[tactic(auto, using(crate::proofs::Turns::refused_pop, crate::proofs::Turns::taken_by_turn))]
-    pub fn pop(self) -> (Queue, Result<Pair, IllFormed>)
+    pub fn pop(mut self) -> (Queue, Result<Pair, IllFormed>)
         ensures { pop_outcome result ≡ pop_ring self }
     {
         if !self.is_well_formed() {
             return (self, Err(IllFormed));
         }
         let turn = self.turn();
-        let mut queue = self;
-        queue.move_on(turn.freed, turn.held);
-        (queue, Ok(turn.pair))
+        self.move_on(turn.freed, turn.held);
+        (self, Ok(turn.pair))
     }
 }

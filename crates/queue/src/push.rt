@@ -46,23 +46,23 @@ impl Queue {
         }
     }
 
-    // Puts a code after those that wait, wrapping around to place 0. A refusal hands the queue back as it was. The two
-    // ways meet before the answer is made: the compiler then copies the ring once.
-    #[tactic(auto, using(crate::proofs::Entries::entry_has_room, crate::proofs::Entries::stored_push, crate::proofs::Entries::same_push, crate::proofs::Entries::refused_push))]
-    pub fn push(self, code: Code) -> (Queue, Result<(), PushError>)
+    // Puts a code after those that wait, wrapping around to place 0. A refusal hands the queue back as it was.
+    pub fn push(mut self, code: Code) -> (Queue, Result<(), PushError>)
         ensures { push_outcome result ≡ push_ring self code }
     {
-        let mut queue = self;
-        let answer = match self.entry_for(code) {
-            Ok(entry) => {
-                if let Some(number) = entry {
-                    queue.places[(self.start + self.waiting) % PLACES] = number;
-                    queue.waiting = self.waiting + 1;
-                }
-                Ok(())
-            }
-            Err(e) => Err(e),
-        };
-        (queue, answer)
+        let answer = self.store(code);
+        (self, answer)
+    }
+
+    // Puts a code after those that wait, in place: a push of the sender copies no ring for it.
+    #[tactic(auto, using(crate::proofs::Entries::entry_has_room, crate::proofs::Entries::stored_push, crate::proofs::Entries::same_push, crate::proofs::Entries::refused_push))]
+    pub fn store(&mut self, code: Code) -> Result<(), PushError>
+        ensures { push_outcome (self.new, result) ≡ push_ring self.old code }
+    {
+        if let Some(number) = self.entry_for(code)? {
+            self.places[(self.start + self.waiting) % PLACES] = number;
+            self.waiting += 1;
+        }
+        Ok(())
     }
 }

@@ -8,14 +8,14 @@ use queue::PushError;
 
 impl Sender {
     // Puts a code after those that wait. NUL is accepted and not stored; a refusal hands the sender back as it was.
-    #[tactic(auto, using(crate::proofs::RepeatsFit::refused_push, crate::proofs::RepeatsFit::pushed_by_queue))]
-    pub fn push(self, code: Code) -> (Sender, Result<(), PushError>)
+    #[tactic(auto, using(crate::proofs::RepeatsFit::refused_push))]
+    pub fn push(mut self, code: Code) -> (Sender, Result<(), PushError>)
         ensures { push_outcome result ≡ push_sender self code }
     {
         if !self.repeats.is_well_formed() {
             return (self, Err(PushError::IllFormed));
         }
-        let (queue, answer) = self.queue.push(code);
-        (Sender { queue, ..self }, answer)
+        let answer = self.queue.store(code);
+        (self, answer)
     }
 }

@@ -59,15 +59,14 @@ impl Sender {
 
     // The next pair for the line; 80 80 where nothing is left to send.
     #[tactic(auto, using(crate::proofs::Steps::refused_send, crate::proofs::Steps::sent_by_step))]
-    pub fn send(self) -> (Sender, Result<Pair, IllFormed>)
+    pub fn send(mut self) -> (Sender, Result<Pair, IllFormed>)
         ensures { send_outcome result ≡ send_sender self }
     {
         if !self.is_well_formed() {
             return (self, Err(IllFormed));
         }
         let step = self.step();
-        let mut sender = self;
-        sender.make(step);
-        (sender, Ok(step.pair))
+        self.make(step);
+        (self, Ok(step.pair))
     }
 }
