@@ -49,15 +49,15 @@ impl PacketListing {
     }
 
     // Whether no byte is taken where there is so much room.
-    pub(crate) fn stops(self, room: usize) -> bool
-        ensures { result ≡ stops self room }
+    pub(crate) fn stops(&self, room: usize) -> bool
+        ensures { result ≡ stops self.now room }
     {
         self.ended || room < ROOM
     }
 
     // The stream ends: writes the line of a refusal, if there is one, and the last line.
-    pub(crate) fn ended_by(self, refusal: Option<EndError>, out: &mut Writer) -> PacketListing
-        ensures { Says (ended_by refusal self) out.old result out.new }
+    pub(crate) fn end_by(&mut self, refusal: Option<EndError>, out: &mut Writer)
+        ensures { Says (ended_by refusal self.old) out.old self.new out.new }
     {
         let mut refused = self.refused;
         if let Some(refusal) = refusal {
@@ -65,57 +65,50 @@ impl PacketListing {
             refused = one_more(refused);
         }
         put_last_line(out, self.pairs, self.packets, refused);
-        PacketListing {
-            half: None,
-            refused,
-            ended: true,
-            ..self
-        }
+        self.half = None;
+        self.refused = refused;
+        self.ended = true;
     }
 
-    // After a whole pair that left this state and gave this.
-    pub(crate) fn counted(
-        self,
+    // Counts a whole pair that left this state and gave this.
+    pub(crate) fn count(
+        &mut self,
         state: ExtendedState,
         answer: Result<Option<Given>, ExtendedError>,
-    ) -> PacketListing
-        requires { self.pairs < most_pairs }
-        ensures { result ≡ counted self state (report_of (given_outcome answer)) }
+    )
+        requires { self.old.pairs < most_pairs }
+        ensures { self.new ≡ counted self.old state (report_of (given_outcome answer)) }
     {
-        PacketListing {
-            state,
-            half: None,
-            pairs: self.pairs + 1,
-            packets: one_more_if(matches!(answer, Ok(Some(Given::Packet(_)))), self.packets),
-            refused: one_more_if(answer.is_err(), self.refused),
-            ..self
-        }
+        self.state = state;
+        self.half = None;
+        self.pairs += 1;
+        self.packets = one_more_if(matches!(answer, Ok(Some(Given::Packet(_)))), self.packets);
+        self.refused = one_more_if(answer.is_err(), self.refused);
     }
 
-    // A whole pair. A state may have any count, so that the caller has tested it.
-    pub(crate) fn after_pair(self, pair: Pair, out: &mut Writer) -> PacketListing
-        requires { self.pairs < most_pairs }
-        ensures { Says (of_pair self (step self.state pair)) out.old result out.new }
+    // Takes a whole pair. A state may have any count, so that the caller has tested it.
+    pub(crate) fn take_pair(&mut self, pair: Pair, out: &mut Writer)
+        requires { self.old.pairs < most_pairs }
+        ensures { Says (of_pair self.old (step self.old.state pair)) out.old self.new out.new }
     {
         let (next, answer) = self.state.decode(pair);
         put_line_of(out, self.pairs, answer);
-        self.counted(next, answer)
+        self.count(next, answer);
     }
 
-    // Takes a byte, where there is room for any text that it can make.
+    // Takes a byte, where there is room for any text that it can make. In place: a state has some 270 bytes, and the first byte
+    // of a pair changes two of them.
     #[tactic(auto, unfolding(crate::specs::Pieces::of_byte))]
-    pub(crate) fn absorb(self, byte: u8, out: &mut Writer) -> PacketListing
-        ensures { Says (of_byte self byte) out.old result out.new }
+    pub(crate) fn absorb(&mut self, byte: u8, out: &mut Writer)
+        ensures { Says (of_byte self.old byte) out.old self.new out.new }
     {
         if MOST_PAIRS <= self.pairs {
-            return self.ended_by(Some(EndError::TooManyPairs), out);
+            self.end_by(Some(EndError::TooManyPairs), out);
+            return;
         }
         match self.half {
-            None => PacketListing {
-                half: Some(byte),
-                ..self
-            },
-            Some(first) => self.after_pair(Pair(first, byte), out),
+            None => self.half = Some(byte),
+            Some(first) => self.take_pair(Pair(first, byte), out),
         }
     }
 
@@ -135,7 +128,7 @@ impl PacketListing {
             if listing.stops(out.room()) {
                 break;
             }
-            listing = listing.absorb(byte, &mut out);
+            listing.absorb(byte, &mut out);
             taken += 1;
         }
         let written = out.at;
@@ -157,7 +150,8 @@ impl PacketListing {
             );
         }
         let mut out = Writer { out: output, at: 0 };
-        let listing = self.ended_by(end_refusal(self.half, self.pairs), &mut out);
+        let mut listing = self;
+        listing.end_by(end_refusal(self.half, self.pairs), &mut out);
         let written = out.at;
         (listing, Progress { taken: 0, written })
     }

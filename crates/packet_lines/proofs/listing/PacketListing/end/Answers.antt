@@ -11,5 +11,5 @@ pub returns : goal.returns
 returns c =
     let l = c.args.self in
     the_end l c.args.output.now (sym c.stops.ensures ∙ c.if-stops.false) refl
-    (same_turn (ap (λ r. ended_by r l) c.end_refusal.ensures ∙ ended_so l) c.ended_by-listing.ensures)
+    (same_turn (ap (λ r. ended_by r l) c.end_refusal.ensures ∙ ended_so l) c.end_by.ensures)
     (search rules)

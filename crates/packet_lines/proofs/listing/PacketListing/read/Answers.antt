@@ -8,7 +8,7 @@ use Rattle.packet_lines.proofs.listing.PacketListing.read.Goals as goal
 pub loop-byte-preserved : goal.loop-byte-preserved
 loop-byte-preserved c =
     one_more_byte c.loop-byte.invariant c.loop-byte-test.true
-    (sym (c.stops.ensures ∙ ap (stops c.loop-byte.listing) c.room.ensures) ∙ c.if-stops.false) c.absorb-listing.ensures
+    (sym (c.stops.ensures ∙ ap (stops c.loop-byte.listing) c.room.ensures) ∙ c.if-stops.false) c.absorb.ensures
 
 pub returns : goal.returns
 returns c =
