@@ -6,7 +6,7 @@ ghost use Rattle.streams.specs.Blocks.{EndsDone, IsAnyCutting, ListsAll, StaysDo
 
 use crate::system::{NAME_ROOM, Source, open, report, too_long};
 use std::io;
-use std::io::{ErrorKind, Read, Write};
+use std::io::{ErrorKind, Read, Write, writer};
 
 // The size of a block.
 pub const BLOCK: usize = 65_536;
@@ -124,7 +124,8 @@ pub trait Lister: Copy {
     }
 }
 
-// Lists what an argument names.
+// Lists what an argument names. What prints gives up on an output whose every write is interrupted, and a plain `Write` does
+// not, so the output is written through `writer`.
 fn list_source<L: Lister>(
     rt: &HostRuntime,
     source: Source,
@@ -132,10 +133,10 @@ fn list_source<L: Lister>(
     buffer: &mut [u8; BLOCK],
 ) -> Result<L, Failure> {
     match source {
-        Source::Input => L::list_stream(&mut rt.stdin(), input, buffer, &mut rt.stdout()),
+        Source::Input => L::list_stream(&mut rt.stdin(), input, buffer, &mut writer(&rt.stdout())),
         Source::File(name) => {
             let mut file = open(rt, name).map_err(Failure::Input)?;
-            L::list_stream(&mut file, input, buffer, &mut rt.stdout())
+            L::list_stream(&mut file, input, buffer, &mut writer(&rt.stdout()))
         }
         Source::Nameless => Err(Failure::Input(too_long())),
     }

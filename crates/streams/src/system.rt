@@ -1,4 +1,7 @@
 // What the programs ask of the system, and what they say by it.
+ghost use Rattle.std.specs.Prelude.{◌≡◌, IfSome};
+ghost use Rattle.std.specs.IoError.{raw_os_error};
+
 use crate::lister::Failure;
 use std::env::{Env, FillError};
 use std::fs::File;
@@ -80,9 +83,16 @@ pub(crate) fn report(rt: &HostRuntime, program: &[u8], name: &[u8], failure: Fai
     say(rt, b"\n");
 }
 
+// The system's number of an error, where it has one.
+pub(crate) fn number_of(error: &io::Error) -> i32
+    ensures { IfSome (raw_os_error error.now) (λ n. result ≡ n) }
+{
+    error.raw_os_error().unwrap_or(INPUT_OUTPUT)
+}
+
 // The system's words for an error, which `io::Error` writes before the number itself.
 fn say_error(rt: &HostRuntime, error: &io::Error) {
-    let number = error.raw_os_error().unwrap_or(INPUT_OUTPUT);
+    let number = number_of(error);
     let Ok(text) = io::Error::from_raw_os_error(number).to_string(rt.alloc()) else {
         return;
     };
