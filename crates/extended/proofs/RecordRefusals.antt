@@ -1,5 +1,5 @@
 -- What a pair leaves of the record, from any state whatever: 1 and 13 leave every field and every byte as it was, 14 and 15 all but
--- their packet. A packet is reported with at most 32 bytes.
+-- their packet. The contents in an answer are those of the packet that it reports, at most 32 bytes.
 -- Assumes nothing.
 use Prim.Native.Nat.{ℕ, ◌≤◌, min}
 use lib.ListN.{length, length-take}
@@ -17,7 +17,7 @@ use Rattle.extended.specs.Extended.{reported}
 use Rattle.extended.specs.Packet.{content_bytes, is_right_sum, most_contents}
 use Rattle.extended.specs.Part.{part_of}
 use Rattle.extended.specs.Reading.{first, is_refused, second}
-use Rattle.extended.specs.Refusals.{LeavesRecord, by_1, by_13, by_14, by_15, taken}
+use Rattle.extended.specs.Refusals.{LeavesRecord, a_packet, by_1, by_13, by_14, by_15, no_packet}
 use Rattle.extended.specs.Reports.{reported_bytes}
 use Rattle.extended.specs.State.{Step, by_part_state, contents_of, ended_state, filled_state, finished_state, given_by, has_room, is_of, other_state, packet_at, reader_of, report_of, step}
 use Rattle.extended.specs.declared.class.Class.{Class}
@@ -36,17 +36,21 @@ either : (s : ExtendedState) (t : Bool) (x y : Step) → LeavesRecord s x → Le
 either s true x y first other = first
 either s false x y first other = other
 
+-- a pair without an answer
+silent : (s next : ExtendedState) → LeavesRecord s (next, answer None)
+silent s next = no_packet (answer None) next refl refl
+
 -- what the captions' receiver answers
 heard_leaves : (s next : ExtendedState) (o : Outcome (Option Cea608)) → is_refused (reported o) ≡ false → LeavesRecord s (next, given_by o)
-heard_leaves s next (answer None) heard = taken None next
-heard_leaves s next (answer (Some e)) heard = taken (Some (given.Event e)) next
+heard_leaves s next (answer None) heard = silent s next
+heard_leaves s next (answer (Some e)) heard = no_packet (answer (Some (given.Event e))) next refl refl
 heard_leaves s next (refused n) heard = absurd (true≢false heard)
 
 module _ (s : ExtendedState) (h : Stepped) (heard : is_refused (reported h.0) ≡ false) where
   finished_leaves : (c : Class) → s.running ≡ running.Extended c → (x : Option ℕ) (k : Contents) (sum : ℕ) → LeavesRecord s (finished_state s h.1 c x k sum)
   finished_leaves c runs None k sum = by_13
   finished_leaves c runs (Some t) k sum =
-      either s (is_right_sum c t (contents_of k) sum) _ _ (taken _ _) (by_15 c runs)
+      either s (is_right_sum c t (contents_of k) sum) _ _ (a_packet c t k _ refl) (by_15 c runs)
 
   ended_leaves : (x : Running) → s.running ≡ x → (sum : ℕ) → LeavesRecord s (ended_state s h.1 x sum)
   ended_leaves running.Captions runs sum = by_13
@@ -54,8 +58,8 @@ module _ (s : ExtendedState) (h : Stepped) (heard : is_refused (reported h.0) �
       finished_leaves c runs (packet_at s.packets c).packet_type (packet_at s.packets c).contents sum
 
   filled_leaves : (c : Class) → s.running ≡ running.Extended c → (x : Option ℕ) (k : Contents) (a b : ℕ) → LeavesRecord s (filled_state s h.1 c x k a b)
-  filled_leaves c runs None k a b = taken None _
-  filled_leaves c runs (Some t) k a b = either s (has_room k (content_bytes a b)) _ _ (taken None _) (by_14 c runs)
+  filled_leaves c runs None k a b = silent s _
+  filled_leaves c runs (Some t) k a b = either s (has_room k (content_bytes a b)) _ _ (silent s _) (by_14 c runs)
 
   other_leaves : (x : Running) → s.running ≡ x → (a b : ℕ) → LeavesRecord s (other_state s h x a b)
   other_leaves running.Captions runs a b = heard_leaves s _ h.0 heard
@@ -64,8 +68,8 @@ module _ (s : ExtendedState) (h : Stepped) (heard : is_refused (reported h.0) �
 
   part_leaves : (x : Part) (a b : ℕ) → LeavesRecord s (by_part_state s h x a b)
   part_leaves part.Command a b = heard_leaves s _ h.0 heard
-  part_leaves (part.Start c) a b = taken None _
-  part_leaves (part.Continuation c) a b = either s (is_of b (packet_at s.packets c)) _ _ (taken None _) by_13
+  part_leaves (part.Start c) a b = silent s _
+  part_leaves (part.Continuation c) a b = either s (is_of b (packet_at s.packets c)) _ _ (silent s _) by_13
   part_leaves part.End a b = ended_leaves s.running refl b
   part_leaves part.Other a b = other_leaves s.running refl a b
 
